@@ -1,0 +1,14 @@
+pub mod Bytes
+pub mod Floats
+pub mod Sizes
+pub mod Framing
+pub mod Counts
+pub mod Samples
+pub mod JitterBuffer
+pub mod Row
+pub mod Scaling
+pub mod Picture
+pub mod Clock
+pub mod Receiver
+pub mod Tape
+pub mod Sessions
