@@ -1,0 +1,10 @@
+pub mod BoolLaws
+pub mod ListLaws
+pub mod FieldRange
+pub mod RowLaws
+pub mod PictureLaws
+pub mod StepLaws
+pub mod ClockLaws
+pub mod Waiting
+pub mod FillStep
+pub mod Fill
