@@ -15,7 +15,7 @@ use Rattle.model.proofs.BoolLaws.{by-test, clash}
 use Rattle.model.proofs.FillStep.{Loose, Flow, flow-none, flow-then, step-keeps, step-flows, Queued, moved-queues, concealed-queues}
 
 module _ {X : Type 0} (filler : X) (z : Sizes) where
-  or-else-keeps : (P : Buffer X → Type 0) (d : Step) (b rest : Buffer X) → P b → P rest → P (orElse d b rest)
+  pub or-else-keeps : (P : Buffer X → Type 0) (d : Step) (b rest : Buffer X) → P b → P rest → P (orElse d b rest)
   or-else-keeps P (moved s) b rest p q = q
   or-else-keeps P (concealed s) b rest p q = q
   or-else-keeps P stopped b rest p q = p
@@ -76,7 +76,7 @@ module _ {X : Type 0} (filler : X) (z : Sizes) where
     where
       go : (d : Step) → does z (orElse d b (fillSteps filler z n (act filler z (does z b) b))) ≡ stopped
           → (does z (fillSteps filler z n (act filler z (does z b) b)) ≡ stopped
-            → fillSteps filler z (n + k) (act filler z (does z b) b) ≡ fillSteps filler z n (act filler z (does z b) b))
+          → fillSteps filler z (n + k) (act filler z (does z b) b) ≡ fillSteps filler z n (act filler z (does z b) b))
           → orElse d b (fillSteps filler z (n + k) (act filler z (does z b) b)) ≡ orElse d b (fillSteps filler z n (act filler z (does z b) b))
       go (moved s) e again = again e
       go (concealed s) e again = again e

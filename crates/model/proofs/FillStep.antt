@@ -102,18 +102,18 @@ module _ {X : Type 0} where
   does-moved z b s e =
       by-test (ltb (length (b .queue)) (z .target))
       (λ t. let m : withNext (b .next) (b .waiting) ≡ moved s = rw t at e in
-        let n = next-moved (b .next) (b .waiting) s m in
-        (ltb-true _ _ t, n .0, n .1))
+      let n = next-moved (b .next) (b .waiting) s m in
+      (ltb-true _ _ t, n .0, n .1))
       (λ t. let m : stopped ≡ moved s = rw t at e in clash (cc))
 
-  does-concealed : (z : Sizes) (b : Buffer X) (s : ℕ) → does z b ≡ concealed s
+  pub does-concealed : (z : Sizes) (b : Buffer X) (s : ℕ) → does z b ≡ concealed s
       → (length (b .queue) < z .target) × (b .next ≡ some s) × (isWaiting s (b .waiting) ≡ false) × (0 < length (b .waiting))
   unfolding does
   does-concealed z b s e =
       by-test (ltb (length (b .queue)) (z .target))
       (λ t. let m : withNext (b .next) (b .waiting) ≡ concealed s = rw t at e in
-        let n = next-concealed (b .next) (b .waiting) s m in
-        (ltb-true _ _ t, n .0, n .1, n .2))
+      let n = next-concealed (b .next) (b .waiting) s m in
+      (ltb-true _ _ t, n .0, n .1, n .2))
       (λ t. let m : stopped ≡ concealed s = rw t at e in clash (cc))
 
   -- ---- what a step keeps
@@ -132,11 +132,11 @@ module _ {X : Type 0} where
         packets = all-without (PacketKept z) s (b .waiting) (l .packets);
         queue = simp length-append (omega (arith, length-samples (z .packet) s (b .waiting) (all-sized z (b .waiting) (l .packets)) (h .2)));
         run = omega arith;
-        next = next-fits s
+        next = next-fits s;
       }
 
   -- next = earliest waiting, of a list that is not empty
-  earliest-keeps : (z : Sizes) (n : ℕ) (ps : List (Packet X)) (q : List X) → 0 < length ps → RisingFrom n ps → All (PacketKept z) ps
+  pub earliest-keeps : (z : Sizes) (n : ℕ) (ps : List (Packet X)) (q : List X) → 0 < length ps → RisingFrom n ps → All (PacketKept z) ps
       → RisingFrom (lowest (earliest ps)) ps × NextKept (earliest ps) q
   unfolding earliest
   earliest-keeps z n [] q h r a = absurd (omega arith)
@@ -149,16 +149,16 @@ module _ {X : Type 0} where
       let r : RisingFrom s (b .waiting) = rw (h .1) at (l .rising) in
       let past = rising-past s (b .waiting) r (h .2) in
       let fits : length (b .queue ++ replicate (z .packet) filler) < z .target + z .packet =
-        simp (length-append, length-replicate) (omega arith) in
+      simp (length-append, length-replicate) (omega arith) in
       by-test (leb 3 (b .run + 1))
       (λ t. rw t (let n = earliest-keeps z (suc s) (b .waiting) (b .queue ++ replicate (z .packet) filler) (h .3) past (l .packets) in
-        record { rising = n .0; packets = l .packets; queue = fits; run = omega arith; next = n .1 }))
+      record { rising = n .0; packets = l .packets; queue = fits; run = omega arith; next = n .1 }))
       (λ t. rw t (record {
         rising = rising-weaken (b .waiting) (next-not-above s) past;
         packets = l .packets;
         queue = fits;
         run = omega (arith, leb-false 3 (b .run + 1) t);
-        next = next-fits s
+        next = next-fits s;
       }))
 
   -- ---- what a step moves
@@ -175,7 +175,7 @@ module _ {X : Type 0} where
   unfolding act resynced buffered countConcealed countResync
   concealed-flows filler z b s p e =
       let q : length (b .queue ++ replicate (z .packet) filler) ≡ length (b .queue) + z .packet =
-        simp (length-append, length-replicate) in
+      simp (length-append, length-replicate) in
       by-test (leb 3 (b .run + 1)) (λ t. rw t (omega arith)) (λ t. rw t (omega arith))
 
   -- ---- the step, whatever it does
@@ -209,7 +209,7 @@ module _ {X : Type 0} where
       let h = does-moved z b s e in
       record {
         below = h .0;
-        queue = simp length-append (omega (arith, length-samples (z .packet) s (b .waiting) (all-sized z (b .waiting) (l .packets)) (h .2)))
+        queue = simp length-append (omega (arith, length-samples (z .packet) s (b .waiting) (all-sized z (b .waiting) (l .packets)) (h .2)));
       }
 
   pub concealed-queues : (filler : X) (z : Sizes) (b : Buffer X) (s : ℕ) → does z b ≡ concealed s → Queued z b (act filler z (concealed s) b)
@@ -217,5 +217,5 @@ module _ {X : Type 0} where
   concealed-queues filler z b s e =
       let h = does-concealed z b s e in
       let q : length (b .queue ++ replicate (z .packet) filler) ≡ length (b .queue) + z .packet =
-        simp (length-append, length-replicate) in
+      simp (length-append, length-replicate) in
       by-test (leb 3 (b .run + 1)) (λ t. rw t (record { below = h .0; queue = q })) (λ t. rw t (record { below = h .0; queue = q }))

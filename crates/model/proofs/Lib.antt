@@ -8,3 +8,7 @@ pub mod ClockLaws
 pub mod Waiting
 pub mod FillStep
 pub mod Fill
+pub mod SizeLaws
+pub mod BufferKept
+pub mod Push
+pub mod Play
