@@ -12,3 +12,6 @@ pub mod SizeLaws
 pub mod BufferKept
 pub mod Push
 pub mod Play
+pub mod ChannelKept
+pub mod Held
+pub mod Accepted
