@@ -16,6 +16,12 @@ clash e = absurd (omega arith)
 pub both-and : {a b : Bool} → a ≡ true → b ≡ true → (a && b) ≡ true
 both-and {a} {b} p q = and-eq-true-iff a b .1 (p, q)
 
+pub first-of-both : (a b : Bool) → a && b ≡ true → a ≡ true
+first-of-both a b e = and-eq-true-iff a b .0 e .0
+
+pub second-of-both : (a b : Bool) → a && b ≡ true → b ≡ true
+second-of-both a b e = and-eq-true-iff a b .0 e .1
+
 pub neither-first : (a b : Bool) → (a || b) ≡ false → a ≡ false
 neither-first true b p = p
 neither-first false b p = refl

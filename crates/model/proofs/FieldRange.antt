@@ -1,38 +1,27 @@
--- The range of a number in bytes: k bytes, each below 256, are a number below 256 to the k. By recursion on the bytes. Assumes nothing.
+-- The range of a number in bytes: k bytes, each below 256, are a number below 256 to the k. Assumes nothing.
 use Prim.Native.Nat.{ℕ, _^_, _<_}
 use native.Mathlib.Omega.{arith}
-use native.Mathlib.Nat.{lt-of-lt-of-le, pow-succ', pow-le-pow-right}
+use native.Mathlib.Nat.{lt-of-lt-of-le, pow-le-pow-right}
 use mathlib.Core.Path.{_≡_}
-use mathlib.Core.Bool.{true, and-eq-true-iff}
-use mathlib.Core.List.{List, [], _∷_}
-use lib.ListN.{length, drop, length-take}
-use lib.Dec.{ltb, lit≤}
-use lib.Arith.{digits-lt}
-use borrow.Author.Tests.{ltb-true}
-use Rattle.model.specs.Bytes.{bigEndian, bigEndianAt, part}
+use mathlib.Core.Bool.{true}
+use mathlib.Core.List.{List}
+use lib.ListN.{drop, length-take}
+use lib.Dec.{lit≤}
+use Rattle.model.specs.Bytes.{bigEndianAt, part}
 use Rattle.model.specs.Framing.{headerFields, headerLength}
 use Rattle.model.specs.Row.{chunkTotal}
 use Rattle.model.specs.Receiver.{all}
-use Rattle.model.proofs.ListLaws.{drop-passes, take-passes}
+use Rattle.model.proofs.ListLaws.{all-drop, all-take}
+use Rattle.model.proofs.BytesLaws.{isByte, big-endian-below}
 
 -- every one is below 256
 abbrev pub Bytes : List ℕ → Type 0
-Bytes bytes = all (λ b. ltb b 256) bytes ≡ true
-
-big-endian-below : (bs : List ℕ) → Bytes bs → bigEndian bs < 256 ^ length bs
-unfolding bigEndian all
-big-endian-below [] h = omega arith
-big-endian-below (b ∷ bs) h =
-    let tests = and-eq-true-iff (ltb b 256) (all (λ c. ltb c 256) bs) .0 h in
-    rw pow-succ' (digits-lt (ltb-true b 256 (tests .0)) (big-endian-below bs (tests .1)))
-
-pub drop-bytes : (n : ℕ) (bytes : List ℕ) → Bytes bytes → Bytes (drop n bytes)
-drop-bytes n bytes h = drop-passes (λ b. ltb b 256) n bytes h
+Bytes bytes = all isByte bytes ≡ true
 
 pub field-below : (at k : ℕ) (bytes : List ℕ) → Bytes bytes → bigEndianAt at k bytes < 256 ^ k
 field-below at k bytes h =
     lt-of-lt-of-le
-    (big-endian-below (part at k bytes) (take-passes (λ b. ltb b 256) k (drop at bytes) (drop-bytes at bytes h)))
+    (big-endian-below (part at k bytes) (all-take isByte k (drop at bytes) (all-drop isByte at bytes h)))
     (pow-le-pow-right (lit≤ tt) (simp length-take (omega arith)))
 
 pub sequence-below : (bytes : List ℕ) → Bytes bytes → headerFields bytes .sequence < 2 ^ 32
@@ -45,4 +34,4 @@ total-below payload h = field-below 2 2 payload h
 
 -- the total that the payload of a datagram's waterfall row names
 pub datagram-total-below : (bytes : List ℕ) → Bytes bytes → chunkTotal (drop headerLength bytes) < 65536
-datagram-total-below bytes h = total-below (drop headerLength bytes) (drop-bytes headerLength bytes h)
+datagram-total-below bytes h = total-below (drop headerLength bytes) (all-drop isByte headerLength bytes h)

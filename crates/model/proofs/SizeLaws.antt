@@ -8,13 +8,9 @@ use lib.Dec.{leb}
 use borrow.Author.Tests.{leb-true}
 use Rattle.model.specs.Sizes.{Sizes, between, sizesAllowed, mostWaiting}
 
--- what both tests show
-pub both : (a b : Bool) → (a && b) ≡ true → (a ≡ true) × (b ≡ true)
-both a b h = and-eq-true-iff a b .0 h
-
 pub between-facts : (low high n : ℕ) → between low high n ≡ true → (low ≤ n) × (n ≤ high)
 between-facts low high n h =
-    let t = both (leb low n) (leb n high) h in
+    let t = and-eq-true-iff (leb low n) (leb n high) .0 h in
     (leb-true low n (t .0), leb-true n high (t .1))
 
 pub record Allowed (z : Sizes) : Type 0 where
@@ -34,11 +30,11 @@ pub record Allowed (z : Sizes) : Type 0 where
 pub allowed : (z : Sizes) → sizesAllowed z ≡ true → Allowed z
 unfolding sizesAllowed
 allowed z h =
-    let p = both (between 1 4096 (z .packet)) _ h in
-    let t = both (between (z .packet) 65536 (z .target)) _ (p .1) in
-    let m = both (between (z .target) 131072 (z .max)) _ (t .1) in
-    let b = both (between 1 65535 (z .bins)) _ (m .1) in
-    let w = both (between 1 4096 (z .width)) _ (b .1) in
+    let p = and-eq-true-iff (between 1 4096 (z .packet)) _ .0 h in
+    let t = and-eq-true-iff (between (z .packet) 65536 (z .target)) _ .0 (p .1) in
+    let m = and-eq-true-iff (between (z .target) 131072 (z .max)) _ .0 (t .1) in
+    let b = and-eq-true-iff (between 1 65535 (z .bins)) _ .0 (m .1) in
+    let w = and-eq-true-iff (between 1 4096 (z .width)) _ .0 (b .1) in
     let packet = between-facts 1 4096 (z .packet) (p .0) in
     let target = between-facts (z .packet) 65536 (z .target) (t .0) in
     let max = between-facts (z .target) 131072 (z .max) (m .0) in

@@ -1,0 +1,168 @@
+-- Every state that a list of calls reaches from an accepted setup can be held; so while calls are left no call is refused with 1 to 4. Assumes nothing.
+use mathlib.Core.Path.{_≡_, refl, sym, _∙_, ap}
+use mathlib.Core.Bool.{Bool, true, false, cond, _&&_}
+use mathlib.Core.Option.{Option, none, some}
+use mathlib.Core.List.{List, [], _∷_}
+use Prim.Native.Nat.{ℕ, zero, suc, _+_, _*_, _≤_, _<_}
+use native.Mathlib.Omega.{arith}
+use lib.ListN.{length}
+use lib.Dec.{ltb}
+use borrow.Author.Tests.{lt-ltb}
+use Rattle.model.specs.Sizes.{Sizes, sizesAllowed}
+use Rattle.model.specs.Framing.{headerFields, Side, A, B, Stream, audio, waterfall, otherStream}
+use Rattle.model.specs.Clock.{freshClock}
+use Rattle.model.specs.Receiver.{Setup, Call, datagram, play, reset, set, probe, oneWay, depth, transmitDepth, State, Channel, ChannelResult, Lent, Answer, refused, accepted, played, row, StepResult, Question, Opened, opened, notOpened, openedUnless, setUp, setupQuestions, fresh, freshChannel, firstNo, mostCalls, areasLong, held, clockHeld, timingHeld, oneWayHeld, ownQuestions, questions, streamIn, onSide, onClock, countHeader, passedOver, dispatch, takeDatagram, accept, decide, step, Event, Run, run}
+use Rattle.model.proofs.BoolLaws.{by-test, clash}
+use Rattle.model.proofs.Waiting.{All}
+use Rattle.model.proofs.SizeLaws.{Allowed, allowed}
+use Rattle.model.proofs.ChannelKept.{fresh-channel-kept}
+use Rattle.model.proofs.Held.{Within, StreamWithin, StateKept, kept-held}
+use Rattle.model.proofs.Accepted.{CallBytes, first-yes, accept-keeps}
+
+-- ---- setup
+
+-- the sizes of an accepted setup are allowed, and the areas long enough for them
+pub record SetUp (lent : Lent) (setup : Setup) (s : State) : Type 0 where
+  pub allowed : sizesAllowed (setup .sizes) ≡ true
+  pub areas : areasLong lent (setup .sizes) ≡ true
+  pub state : s ≡ fresh setup
+
+opened-facts : (lent : Lent) (setup : Setup) (s : State) (o : Option ℕ) → firstNo (setupQuestions lent setup) ≡ o → openedUnless o setup ≡ opened s → SetUp lent setup s
+unfolding openedUnless setupQuestions
+opened-facts lent setup s (some n) e h = clash (cc)
+opened-facts lent setup s none e h =
+    let one = first-yes _ _ e in
+    let two = first-yes _ _ (one .1) in
+    record { allowed = one .0; areas = two .0; state = cc }
+
+pub set-up-facts : (lent : Lent) (setup : Setup) (s : State) → setUp lent setup ≡ opened s → SetUp lent setup s
+unfolding setUp
+set-up-facts lent setup s h = opened-facts lent setup s (firstNo (setupQuestions lent setup)) refl h
+
+fresh-kept : (setup : Setup) → sizesAllowed (setup .sizes) ≡ true → StateKept (fresh setup)
+unfolding fresh clockHeld timingHeld oneWayHeld freshChannel
+fresh-kept setup h =
+    let a = allowed (setup .sizes) h in
+    record {
+      allowed = h;
+      channelA = fresh-channel-kept (setup .sizes) (setup .estimatesA) a;
+      channelB = fresh-channel-kept (setup .sizes) (setup .estimatesB) a;
+      countersA = omega arith;
+      countersB = omega arith;
+      clock = refl;
+      incoming = omega arith;
+      audio = record { packets = omega arith; dropped = omega arith; late = omega arith; last = tt };
+      waterfall = record { packets = omega arith; dropped = omega arith; late = omega arith; last = tt };
+    }
+
+-- ---- steps
+
+decided-keeps : (lent : Lent) (c : Call) (s : State) (o : Option ℕ) → firstNo (questions lent s c) ≡ o → CallBytes c → StateKept s → StateKept (decide o c s .after)
+unfolding decide questions
+decided-keeps lent c s (some n) e b k = k
+decided-keeps lent c s none e b k =
+    let one = first-yes _ _ e in
+    let two = first-yes _ _ (one .1) in
+    let three = first-yes _ _ (two .1) in
+    let four = first-yes _ _ (three .1) in
+    accept-keeps c s b (four .1) k
+
+-- every call keeps the state: a refused one leaves it as it was
+pub step-keeps : (lent : Lent) (c : Call) (s : State) → CallBytes c → StateKept s → StateKept (step lent c s .after)
+unfolding step
+step-keeps lent c s b k = decided-keeps lent c s (firstNo (questions lent s c)) refl b k
+
+pub run-keeps : (lent : Lent) (cs : List Call) (s : State) → All CallBytes cs → StateKept s → StateKept (run lent cs s .after)
+unfolding run
+run-keeps lent [] s b k = k
+run-keeps lent (c ∷ cs) s b k = run-keeps lent cs (step lent c s .after) (b .1) (step-keeps lent c s (b .0) k)
+
+pub set-up-kept : (lent : Lent) (setup : Setup) (s : State) → setUp lent setup ≡ opened s → StateKept s
+set-up-kept lent setup s h =
+    let f = set-up-facts lent setup s h in
+    rw (f .state) (fresh-kept setup (f .allowed))
+
+-- after every list of calls from an accepted setup the third question is answered yes
+pub reachable-can-be-held : (lent : Lent) (setup : Setup) (s : State) (cs : List Call) → setUp lent setup ≡ opened s → All CallBytes cs
+    → held (run lent cs s .after) ≡ true
+reachable-can-be-held lent setup s cs h b =
+    kept-held (run lent cs s .after) (run-keeps lent cs s b (set-up-kept lent setup s h))
+
+-- ---- while calls are left, the first four questions are answered yes
+
+-- a state in which a call gets past them
+pub record Ready (lent : Lent) (s : State) : Type 0 where
+  pub kept : StateKept s
+  pub areas : areasLong lent (s .sizes) ≡ true
+  pub calls : s .calls < mostCalls
+
+pub ready-step : (lent : Lent) (c : Call) (s : State) → Ready lent s → step lent c s ≡ decide (firstNo (ownQuestions (s .sizes) c)) c s
+unfolding step questions firstNo
+ready-step lent c s r = rw (r .kept .allowed, r .areas, kept-held s (r .kept), lt-ltb (s .calls) mostCalls (r .calls))
+
+-- ---- sizes stay, and an accepted call is one call more
+
+record OneMore (s t : State) : Type 0 where
+  sizes : t .sizes ≡ s .sizes
+  calls : t .calls ≡ s .calls + 1
+
+side-one-more : (side : Side) (f : Channel → ChannelResult) (s : State) → OneMore s (onSide side f s .after)
+unfolding onSide
+side-one-more A f s = record { sizes = refl; calls = refl }
+side-one-more B f s = record { sizes = refl; calls = refl }
+
+dispatch-one-more : (bytes : List ℕ) (stream : Stream) (s : State) → OneMore s (dispatch (headerFields bytes) bytes stream s .after)
+unfolding dispatch passedOver
+dispatch-one-more bytes (audio side) s = side-one-more side _ s
+dispatch-one-more bytes (waterfall side) s = side-one-more side _ s
+dispatch-one-more bytes otherStream s = record { sizes = refl; calls = refl }
+
+datagram-one-more : (bytes : List ℕ) (s : State) → OneMore s (takeDatagram bytes s .after)
+unfolding takeDatagram countHeader
+datagram-one-more bytes s =
+    let m = dispatch-one-more bytes (streamIn bytes) (countHeader (headerFields bytes .sequence) (streamIn bytes) s) in
+    record { sizes = m .sizes; calls = m .calls }
+
+accept-one-more : (c : Call) (s : State) → OneMore s (accept c s .after)
+unfolding accept onClock
+accept-one-more (datagram bytes) s = datagram-one-more bytes s
+accept-one-more (play side n) s = side-one-more side _ s
+accept-one-more (reset side) s = side-one-more side _ s
+accept-one-more (set side x) s = side-one-more side _ s
+accept-one-more (probe t1 t2 t3 t4) s = record { sizes = refl; calls = refl }
+accept-one-more (oneWay receive send) s = record { sizes = refl; calls = refl }
+accept-one-more (depth samples counts) s = record { sizes = refl; calls = refl }
+accept-one-more (transmitDepth samples) s = record { sizes = refl; calls = refl }
+
+pub record AtMostOneMore (s t : State) : Type 0 where
+  pub sizes : t .sizes ≡ s .sizes
+  pub calls : t .calls ≤ s .calls + 1
+
+decided-at-most : (o : Option ℕ) (c : Call) (s : State) → AtMostOneMore s (decide o c s .after)
+unfolding decide
+decided-at-most (some n) c s = record { sizes = refl; calls = omega arith }
+decided-at-most none c s = let m = accept-one-more c s in record { sizes = m .sizes; calls = omega arith }
+
+pub step-at-most : (lent : Lent) (c : Call) (s : State) → AtMostOneMore s (step lent c s .after)
+unfolding step
+step-at-most lent c s = decided-at-most (firstNo (questions lent s c)) c s
+
+-- a kept state with calls left for a list
+pub record Room (lent : Lent) (left : ℕ) (s : State) : Type 0 where
+  pub kept : StateKept s
+  pub areas : areasLong lent (s .sizes) ≡ true
+  pub calls : s .calls + left ≤ mostCalls
+
+pub room-ready : (lent : Lent) (left : ℕ) (s : State) → Room lent (suc left) s → Ready lent s
+room-ready lent left s r = record { kept = r .kept; areas = r .areas; calls = omega (arith, r .calls) }
+
+pub room-step : (lent : Lent) (left : ℕ) (c : Call) (s : State) → CallBytes c → Room lent (suc left) s → Room lent left (step lent c s .after)
+room-step lent left c s b r =
+    let m = step-at-most lent c s in
+    record { kept = step-keeps lent c s b (r .kept); areas = rw (m .sizes) (r .areas); calls = omega (arith, r .calls, m .calls) }
+
+pub set-up-room : (lent : Lent) (setup : Setup) (s : State) (left : ℕ) → setUp lent setup ≡ opened s → left ≤ mostCalls → Room lent left s
+unfolding fresh
+set-up-room lent setup s left h l =
+    let f = set-up-facts lent setup s h in
+    rw (f .state) (record { kept = fresh-kept setup (f .allowed); areas = f .areas; calls = omega arith })
