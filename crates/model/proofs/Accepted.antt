@@ -16,6 +16,7 @@ use Rattle.model.specs.Samples.{audioPayload}
 use Rattle.model.specs.Clock.{Clock, probeOffset, probeRoundTrip, recordProbe, recordOneWay, recordDepth, recordTransmit}
 use Rattle.model.specs.Receiver as Receiver
 use Rattle.model.specs.Receiver.{Call, datagram, play, set, probe, oneWay, depth, transmitDepth, State, Counts, Channel, ChannelResult, StepResult, Question, mostCalls, firstNo, ownQuestions, streamIn, streamAllowed, totalAllowed, probeAllowed, clockHeld, channelOf, withBuffer, playChannel, resetChannel, setChannel, audioInto, waterfallInto, onSide, onClock, countsAfter, countHeader, passedOver, dispatch, takeDatagram, accept}
+use Rattle.model.specs.WholeList.{CallBytes}
 use Rattle.model.proofs.BoolLaws.{by-test, cond-keeps, clash}
 use Rattle.model.proofs.FieldRange.{Bytes, sequence-below}
 use Rattle.model.proofs.SizeLaws.{Allowed, allowed}
@@ -23,17 +24,6 @@ use Rattle.model.proofs.BufferKept.{Grown}
 use Rattle.model.proofs.ChannelKept.{ChannelKept, Acts, play-acts, reset-acts, set-acts, audio-acts, waterfall-acts}
 use Rattle.model.proofs.ClockLaws.{probe-keeps, one-way-keeps, depth-keeps, transmit-keeps}
 use Rattle.model.proofs.Held.{Within, LastKept, StreamWithin, StateKept}
-
--- a call is made of bytes
-abbrev pub CallBytes : Call → Type 0
-CallBytes (datagram bytes) = Bytes bytes
-CallBytes (play side n) = Unit {0}
-CallBytes (Receiver.reset side) = Unit {0}
-CallBytes (set side x) = Unit {0}
-CallBytes (probe t1 t2 t3 t4) = Unit {0}
-CallBytes (oneWay receive send) = Unit {0}
-CallBytes (depth samples counts) = Unit {0}
-CallBytes (transmitDepth samples) = Unit {0}
 
 -- no question of a list is answered with no: the first is answered with yes, and none of the others with no
 pub first-yes : (q : Question) (qs : List Question) → firstNo (q ∷ qs) ≡ none → (q .yes ≡ true) × (firstNo qs ≡ none)

@@ -97,7 +97,7 @@ unfolding chunkResult ofPlay
 chunk-plays-none f z c kept none = refl
 chunk-plays-none f z c kept (some values) = refl
 
-waterfall-plays-none : (f : Played Float → ℕ) (z : Sizes) (payload : List ℕ) (c : Channel) → ofPlay f (waterfallInto z payload c .answer) ≡ 0
+pub waterfall-plays-none : (f : Played Float → ℕ) (z : Sizes) (payload : List ℕ) (c : Channel) → ofPlay f (waterfallInto z payload c .answer) ≡ 0
 unfolding waterfallInto
 waterfall-plays-none f z payload c = chunk-plays-none f z c _ _
 

@@ -13,7 +13,8 @@ use Rattle.model.specs.Sizes.{Sizes}
 use Rattle.model.specs.Framing.{nextSequence}
 use Rattle.model.specs.JitterBuffer.{Counters, Packet, Buffer, Step, moved, concealed, stopped, buffered, isWaiting, samplesAt, without, earliest, withNext, does, resynced, act, countConcealed, countResync}
 use Rattle.model.proofs.BoolLaws.{by-test, clash}
-use Rattle.model.proofs.Waiting.{All, RisingFrom, rising-weaken, rising-without, rising-past, length-without, all-without, length-samples}
+use Rattle.model.specs.WholeList.{All}
+use Rattle.model.proofs.Waiting.{RisingFrom, rising-weaken, rising-without, rising-past, length-without, all-without, length-samples}
 
 -- the sequence below which none waits
 abbrev pub lowest : Option ℕ → ℕ

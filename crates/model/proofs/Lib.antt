@@ -18,6 +18,9 @@ pub mod Held
 pub mod Accepted
 pub mod Reachable
 pub mod Lines
+pub mod ChannelSum
+pub mod WholeList
+pub mod Refusals
 pub mod TapeWord
 pub mod TapeBody
 pub mod TapeCall

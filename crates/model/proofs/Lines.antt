@@ -12,8 +12,8 @@ use Rattle.model.specs.Samples.{audioPayload}
 use Rattle.model.specs.Clock.{Clock, probeOffset, probeRoundTrip, recordProbe, recordOneWay, recordDepth, recordTransmit}
 use Rattle.model.specs.Receiver.{Call, datagram, play, reset, set, probe, oneWay, depth, transmitDepth, State, Channel, ChannelResult, Lent, Answer, refused, accepted, StepResult, firstNo, mostCalls, ownQuestions, streamIn, playChannel, resetChannel, setChannel, audioInto, waterfallInto, onSide, onClock, countsAfter, countHeader, passedOver, dispatch, takeDatagram, accept, decide, step, Event, Run, run, Line, channel, clock, streamLine, lineOf, sameSide, sameLine, isOf, onlyCalls, onlyEvents, LineState, stateA, stateB, stateClock, lineState}
 use Rattle.model.proofs.BoolLaws.{by-test, clash, both-and}
-use Rattle.model.proofs.Waiting.{All}
-use Rattle.model.proofs.Accepted.{CallBytes, first-yes}
+use Rattle.model.specs.WholeList.{All, CallBytes}
+use Rattle.model.proofs.Accepted.{first-yes}
 use Rattle.model.proofs.Reachable.{Ready, ready-step, Room, room-ready, room-step, step-at-most}
 
 -- two results that a line cannot tell apart

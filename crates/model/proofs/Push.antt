@@ -12,7 +12,8 @@ use borrow.Author.Tests.{ltb-true, ltb-false, leb-true, leb-false, eqb-true, eqb
 use Rattle.model.specs.Sizes.{Sizes, mostWaiting}
 use Rattle.model.specs.JitterBuffer.{Counters, Packet, Buffer, Step, moved, concealed, stopped, buffered, counting, insert, isWaiting, earliest, does, act, resynced, orElse, fillSteps, fill, isLate, hasRoom, stored, startAt, start, noteLargest, settle, judged, push, countReceived, countInserted, countLate, countOverflow, countInvalidSize}
 use Rattle.model.proofs.BoolLaws.{by-test, cond-keeps}
-use Rattle.model.proofs.Waiting.{All, RisingFrom, rising-weaken, rising-insert, length-insert-new, length-insert-duplicate, all-insert}
+use Rattle.model.specs.WholeList.{All}
+use Rattle.model.proofs.Waiting.{RisingFrom, rising-weaken, rising-insert, length-insert-new, length-insert-duplicate, all-insert}
 use Rattle.model.proofs.FillStep.{PacketKept, NextKept, Loose, Flow, lowest, earliest-keeps, does-concealed}
 use Rattle.model.proofs.Fill.{or-else-keeps, fill-keeps, fill-flows}
 use Rattle.model.proofs.SizeLaws.{Allowed, room-for-one}

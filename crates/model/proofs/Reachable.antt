@@ -13,11 +13,11 @@ use Rattle.model.specs.Framing.{headerFields, Side, A, B, Stream, audio,
 use Rattle.model.specs.Clock.{freshClock}
 use Rattle.model.specs.Receiver.{Setup, Call, datagram, play, reset, set, probe, oneWay, depth, transmitDepth, State, Channel, ChannelResult, Lent, Answer, refused, accepted, played, row, StepResult, Question, Opened, opened, notOpened, openedUnless, setUp, setupQuestions, fresh, freshChannel, firstNo, mostCalls, areasLong, held, clockHeld, timingHeld, oneWayHeld, ownQuestions, questions, streamIn, onSide, onClock, countHeader, passedOver, dispatch, takeDatagram, accept, decide, step, Event, Run, run}
 use Rattle.model.proofs.BoolLaws.{by-test, clash}
-use Rattle.model.proofs.Waiting.{All}
+use Rattle.model.specs.WholeList.{All, CallBytes}
 use Rattle.model.proofs.SizeLaws.{Allowed, allowed}
 use Rattle.model.proofs.ChannelKept.{fresh-channel-kept}
 use Rattle.model.proofs.Held.{Within, StreamWithin, StateKept, kept-held}
-use Rattle.model.proofs.Accepted.{CallBytes, first-yes, accept-keeps}
+use Rattle.model.proofs.Accepted.{first-yes, accept-keeps}
 
 -- ---- setup
 
@@ -82,11 +82,17 @@ set-up-kept lent setup s h =
     let f = set-up-facts lent setup s h in
     rw (f .state) (fresh-kept setup (f .allowed))
 
+-- after every list of calls from an accepted setup all that `StateKept` says holds: the buffers, the rows and the clock are in their ranges,
+-- and each counter, and filled, is at most calls × 4,294,967,295
+pub reachable-kept : (lent : Lent) (setup : Setup) (s : State) (cs : List Call) → setUp lent setup ≡ opened s → All CallBytes cs
+    → StateKept (run lent cs s .after)
+reachable-kept lent setup s cs h b = run-keeps lent cs s b (set-up-kept lent setup s h)
+
 -- after every list of calls from an accepted setup the third question is answered yes
 pub reachable-can-be-held : (lent : Lent) (setup : Setup) (s : State) (cs : List Call) → setUp lent setup ≡ opened s → All CallBytes cs
     → held (run lent cs s .after) ≡ true
 reachable-can-be-held lent setup s cs h b =
-    kept-held (run lent cs s .after) (run-keeps lent cs s b (set-up-kept lent setup s h))
+    kept-held (run lent cs s .after) (reachable-kept lent setup s cs h b)
 
 -- ---- while calls are left, the first four questions are answered yes
 

@@ -12,3 +12,4 @@ pub mod Clock
 pub mod Receiver
 pub mod Tape
 pub mod Sessions
+pub mod WholeList
