@@ -10,7 +10,7 @@ use lib.Dec.{leb, ltb}
 use borrow.Author.Tests.{leb-true}
 use Rattle.model.specs.Sizes.{Sizes, between, sizesAllowed}
 use Rattle.model.specs.Framing.{Header, headerFields, headerLength, validHeader, nextSequence, Side, A, B, Stream, audio, waterfall, otherStream}
-use Rattle.model.specs.Counts.{StreamCounts, counted, droppedBy, lateBy}
+use Rattle.model.specs.Counts.{StreamCounts, counted, isBelow, droppedBy, lateBy}
 use Rattle.model.specs.JitterBuffer.{Counters, reset}
 use Rattle.model.specs.Samples.{audioPayload}
 use Rattle.model.specs.Clock.{Clock, probeOffset, probeRoundTrip, recordProbe, recordOneWay, recordDepth, recordTransmit}
@@ -40,13 +40,13 @@ dropped-below : (last : Option ℕ) (s : ℕ) → s < 2 ^ 32 → droppedBy last 
 unfolding droppedBy
 dropped-below none s h = omega arith
 dropped-below (some last) s h =
-    cond-keeps (λ (n : ℕ). n ≤ mostCalls) (ltb (nextSequence last) s) (s - nextSequence last) 0 (λ e. omega arith) (λ e. omega arith)
+    cond-keeps (λ (n : ℕ). n ≤ mostCalls) (isBelow (nextSequence last) s) (s - nextSequence last) 0 (λ e. omega arith) (λ e. omega arith)
 
 late-below : (last : Option ℕ) (s : ℕ) → lateBy last s ≤ 1
 unfolding lateBy
 late-below none s = omega arith
 late-below (some last) s =
-    cond-keeps (λ (n : ℕ). n ≤ 1) (ltb s (nextSequence last)) 1 0 (λ e. omega arith) (λ e. omega arith)
+    cond-keeps (λ (n : ℕ). n ≤ 1) (isBelow s (nextSequence last)) 1 0 (λ e. omega arith) (λ e. omega arith)
 
 counted-within : (limit s : ℕ) (c : StreamCounts) → s < 2 ^ 32 → StreamWithin limit c → StreamWithin (limit + mostCalls) (counted s c)
 unfolding counted

@@ -8,7 +8,7 @@ use native.Mathlib.Omega.{arith}
 use lib.Dec.{leb}
 use lib.ListN.{length, take, drop, replicate, length-drop, length-append, length-take, length-replicate}
 use Rattle.model.specs.Sizes.{Sizes}
-use Rattle.model.specs.JitterBuffer.{Counters, Buffer, Played, PlayResult, isStarted, buffered, counting, countShort, dropCount, handOut, playFillers, playFilled, play, fill}
+use Rattle.model.specs.JitterBuffer.{Counters, Buffer, Played, PlayResult, isStarted, buffered, counting, countShort, tooLong, dropCount, handOut, playFillers, playFilled, play, fill}
 use Rattle.model.proofs.BoolLaws.{by-test, cond-keeps}
 use Rattle.model.proofs.FillStep.{NextKept, Loose, Flow}
 use Rattle.model.proofs.Fill.{fill-keeps, fill-flows}
@@ -20,7 +20,7 @@ use Rattle.model.proofs.Push.{fill-idle}
 pub drop-in-queue : (z : Sizes) (q : ℕ) → dropCount z q ≤ q
 unfolding dropCount
 drop-in-queue z q =
-    cond-keeps (λ (d : ℕ). d ≤ q) (leb 1 (q - z .target) && leb (z .packet / 4) (q - z .target)) (min 16 q) 0
+    cond-keeps (λ (d : ℕ). d ≤ q) (tooLong z q) (min 16 q) 0
     (λ e. omega arith)
     (λ e. omega arith)
 

@@ -108,9 +108,13 @@ unfoldable pub isLate : ℕ → Option ℕ → Bool
 isLate s none = false
 isLate s (some next) = ltb s next
 
--- how many of q queued samples a play drops: if q − target ≥ 1 and ≥ packet / 4, the 16 oldest at most, else none
+-- a queue of q samples is too long: q − target ≥ 1 and ≥ packet / 4
+unfoldable pub tooLong : Sizes → ℕ → Bool
+tooLong z q = leb 1 (q - z .target) && leb (z .packet / 4) (q - z .target)
+
+-- then a play drops its 16 oldest samples at most, else none
 unfoldable pub dropCount : Sizes → ℕ → ℕ
-dropCount z q = cond (leb 1 (q - z .target) && leb (z .packet / 4) (q - z .target)) (min 16 q) 0
+dropCount z q = cond (tooLong z q) (min 16 q) 0
 
 module _ {X : Type 0} where
   abbrev pub freshBuffer : Buffer X

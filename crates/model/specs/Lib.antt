@@ -11,5 +11,6 @@ pub mod Picture
 pub mod Clock
 pub mod Receiver
 pub mod Tape
+pub mod Replay
 pub mod Sessions
 pub mod WholeList

@@ -8,6 +8,7 @@ use lib.IntN.{ℤ, pos, negsuc}
 use lib.Ieee as Ieee
 use lib.Ieee.{Float}
 use lib.Count as Count
+use lib.ListN.{replicate}
 use Rattle.model.specs.Bytes as Bytes
 use Rattle.model.specs.Bytes.{bigEndianBytes}
 use Rattle.model.specs.Floats as Floats
@@ -30,12 +31,14 @@ use Rattle.model.specs.Clock as Clock
 use Rattle.model.specs.Clock.{Timing, probeOffset, probeRoundTrip, probed}
 use Rattle.model.specs.Receiver as Receiver
 use Rattle.model.specs.Receiver.{Setup, Lent, Call, Answer, Event, Run, State, datagram, play, row, played, fresh, opened, setUp, run}
+use Rattle.model.specs.Replay as Replay
+use Rattle.model.specs.Replay.{replay, replayAreas}
 use Rattle.model.specs.Tape as Tape
 use Rattle.model.specs.Tape.{Tape, readTape, written, read, write, bytesOf}
 
 -- Named on an `unfolding` line, it opens every definition that the sessions run.
 computes : Unit {0}
-unfolding Ieee.span Ieee.climb Ieee.size Ieee.odd Ieee.units Ieee.round Ieee.neg Ieee.sum Ieee.add Ieee.sub Ieee.mul Ieee.div Ieee.lt Ieee.eq Ieee.le Ieee.ofInt Ieee.toUnsigned Ieee.isNan Ieee.ofFields Ieee.ofBits Ieee.toBits Count.trailingZeros zipWith Bytes.bigEndian Bytes.littleEndian Bytes.bigEndianBytes Bytes.placed Bytes.writtenInto Floats.finite Floats.roundHalfAway Floats.maxf Floats.clampf Floats.signed16 Floats.sample Sizes.sizesAllowed Sizes.mostWaiting Sizes.floatSection Sizes.wordSection Sizes.floatArea Sizes.wordArea Framing.headerFields Framing.parseHeader Framing.validHeader Framing.nextSequence Framing.streamOf Framing.audioStart Framing.audioSendTime Framing.timeHeader Framing.buildRequest Framing.buildResponse Framing.timePacket Framing.parseRequest Framing.parseResponse Counts.droppedBy Counts.lateBy Counts.counted Samples.audioPayload Samples.holdsSamples Samples.samplesOf Jitter.countReceived Jitter.countInserted Jitter.countConcealed Jitter.countLate Jitter.countOverflow Jitter.countInvalidSize Jitter.countResync Jitter.countShort Jitter.isLate Jitter.dropCount Jitter.reset Jitter.isStarted Jitter.buffered Jitter.counting Jitter.earliest Jitter.isWaiting Jitter.samplesAt Jitter.without Jitter.insert Jitter.withNext Jitter.does Jitter.resynced Jitter.act Jitter.fillSteps Jitter.fill Jitter.hasRoom Jitter.stored Jitter.startAt Jitter.start Jitter.noteLargest Jitter.settle Jitter.judged Jitter.push Jitter.handOut Jitter.playFillers Jitter.playFilled Jitter.play Row.floatsOf Row.chunkTotal Row.chunkFields Row.wellFormed Row.openRow Row.rowFor Row.finitePrefix Row.complete Row.storeAll Row.storeSome Row.storeChunk Row.pushChunk Scaling.averaged Scaling.spectrumAfter Scaling.finiteValues Scaling.insertRising Scaling.rising Scaling.placeOf Scaling.valueAt Scaling.rowFloor Scaling.rowTop Scaling.estimated Scaling.adaptiveTop Scaling.adaptiveRange Scaling.estimatesToward Scaling.displayAfter Scaling.shownTop Scaling.shownRange Scaling.smoothingWeight Scaling.smoothed Scaling.smoothingAfter Picture.visibleBins Picture.windowStart Picture.windowEnd Picture.binAt Picture.dbToU8 Picture.rgb Picture.colorMap Picture.countFrom Picture.pixel Picture.drawnRow Picture.pictureAfter Clock.bits64 Clock.signed64 Clock.low64 Clock.probeOffset Clock.probeRoundTrip Clock.stepToward Clock.leastAfter Clock.passesGate Clock.timingAfter Clock.probed Clock.recordProbe Clock.oneWayInRange Clock.oneWayOf Clock.oneWayAfter Clock.oneWayed Clock.recordOneWay Clock.samplesMs Clock.depthAfter Clock.recordDepth Clock.recordTransmit Clock.inMs Clock.offsetMs Clock.roundTripMs Clock.oneWayMs Clock.depthMs Clock.depthPeakMs Receiver.freshDisplay Receiver.freshChannel Receiver.fresh Receiver.firstNo Receiver.areasLong Receiver.finiteBits Receiver.estimatesFinite Receiver.settingsFinite Receiver.setupQuestions Receiver.openedUnless Receiver.setUp Receiver.all Receiver.sequences Receiver.strictlyRising Receiver.startHeld Receiver.countersHeld Receiver.bufferHeld Receiver.rowHeld Receiver.channelHeld Receiver.offsetAllowed Receiver.timingHeld Receiver.oneWayHeld Receiver.clockHeld Receiver.streamHeld Receiver.held Receiver.totalAllowed Receiver.streamAllowed Receiver.streamIn Receiver.probeAllowed Receiver.depthAllowed Receiver.ownQuestions Receiver.questions Receiver.withBuffer Receiver.playChannel Receiver.resetChannel Receiver.setDisplay Receiver.setChannel Receiver.audioInto Receiver.shownRow Receiver.chunkResult Receiver.waterfallInto Receiver.onSide Receiver.onClock Receiver.countsAfter Receiver.countHeader Receiver.passedOver Receiver.dispatch Receiver.takeDatagram Receiver.accept Receiver.decide Receiver.step Receiver.run Receiver.streamLine Receiver.lineOf Receiver.onlyCalls Receiver.onlyEvents Receiver.lineState Receiver.ofPlay Receiver.isAccepted Receiver.tally Receiver.tallyFrom Receiver.sinceReset Tape.wordsOf Tape.endsInPart Tape.bytesOf Tape.wordsFor Tape.padding Tape.twoWords Tape.wide Tape.sideBit Tape.adaptiveBit Tape.headWord Tape.wordOf Tape.sideIn Tape.adaptiveIn Tape.clockHead Tape.named Tape.wordIn Tape.bodyLength Tape.headOf Tape.bodyOf Tape.callWords Tape.callOf Tape.paddedWithZeros Tape.foundBody Tape.foundWord Tape.find Tape.before Tape.goOn Tape.callsFrom Tape.setupOf Tape.withSetup Tape.afterFirst Tape.readWords Tape.read Tape.callFits Tape.setupBody Tape.setupWords Tape.setupFits Tape.behind Tape.writeCalls Tape.writeWords Tape.inBytes Tape.write Tape.putResult Tape.putWords Tape.putSetup Tape.putCall Tape.putEnd
+unfolding Ieee.span Ieee.climb Ieee.size Ieee.odd Ieee.units Ieee.round Ieee.neg Ieee.sum Ieee.add Ieee.sub Ieee.mul Ieee.div Ieee.lt Ieee.eq Ieee.le Ieee.ofInt Ieee.toUnsigned Ieee.isNan Ieee.ofFields Ieee.ofBits Ieee.toBits Count.trailingZeros zipWith Bytes.bigEndian Bytes.littleEndian Bytes.bigEndianBytes Bytes.placed Bytes.writtenInto Floats.finite Floats.roundHalfAway Floats.maxf Floats.clampf Floats.signed16 Floats.sample Sizes.sizesAllowed Sizes.mostWaiting Sizes.floatSection Sizes.wordSection Sizes.floatArea Sizes.wordArea Framing.headerFields Framing.parseHeader Framing.validHeader Framing.nextSequence Framing.streamOf Framing.audioStart Framing.audioSendTime Framing.timeHeader Framing.buildRequest Framing.buildResponse Framing.timePacket Framing.parseRequest Framing.parseResponse Counts.isBelow Counts.droppedBy Counts.lateBy Counts.counted Samples.audioPayload Samples.holdsSamples Samples.samplesOf Jitter.countReceived Jitter.countInserted Jitter.countConcealed Jitter.countLate Jitter.countOverflow Jitter.countInvalidSize Jitter.countResync Jitter.countShort Jitter.isLate Jitter.tooLong Jitter.dropCount Jitter.reset Jitter.isStarted Jitter.buffered Jitter.counting Jitter.earliest Jitter.isWaiting Jitter.samplesAt Jitter.without Jitter.insert Jitter.withNext Jitter.does Jitter.resynced Jitter.act Jitter.fillSteps Jitter.fill Jitter.hasRoom Jitter.stored Jitter.startAt Jitter.start Jitter.noteLargest Jitter.settle Jitter.judged Jitter.push Jitter.handOut Jitter.playFillers Jitter.playFilled Jitter.play Row.floatsOf Row.chunkTotal Row.chunkFields Row.wellFormed Row.openRow Row.rowFor Row.finitePrefix Row.complete Row.storeAll Row.storeSome Row.storeChunk Row.pushChunk Scaling.averaged Scaling.spectrumAfter Scaling.finiteValues Scaling.insertRising Scaling.rising Scaling.placeOf Scaling.valueAt Scaling.rowFloor Scaling.rowTop Scaling.estimated Scaling.adaptiveTop Scaling.adaptiveRange Scaling.estimatesToward Scaling.displayAfter Scaling.shownTop Scaling.shownRange Scaling.smoothingWeight Scaling.smoothed Scaling.smoothingAfter Picture.visibleBins Picture.windowStart Picture.windowEnd Picture.binAt Picture.dbToU8 Picture.rgb Picture.colorMap Picture.countFrom Picture.pixel Picture.drawnRow Picture.pictureAfter Clock.bits64 Clock.signed64 Clock.low64 Clock.probeOffset Clock.probeRoundTrip Clock.stepToward Clock.leastAfter Clock.passesGate Clock.timingAfter Clock.probed Clock.recordProbe Clock.oneWayInRange Clock.oneWayOf Clock.oneWayAfter Clock.oneWayed Clock.recordOneWay Clock.samplesMs Clock.depthAfter Clock.recordDepth Clock.recordTransmit Clock.inMs Clock.offsetMs Clock.roundTripMs Clock.oneWayMs Clock.depthMs Clock.depthPeakMs Receiver.freshDisplay Receiver.freshChannel Receiver.fresh Receiver.firstNo Receiver.areasLong Receiver.finiteBits Receiver.estimatesFinite Receiver.settingsFinite Receiver.setupQuestions Receiver.openedUnless Receiver.setUp Receiver.all Receiver.sequences Receiver.strictlyRising Receiver.startHeld Receiver.countersHeld Receiver.bufferHeld Receiver.rowHeld Receiver.channelHeld Receiver.offsetAllowed Receiver.timingHeld Receiver.oneWayHeld Receiver.clockHeld Receiver.streamHeld Receiver.held Receiver.totalAllowed Receiver.streamAllowed Receiver.streamIn Receiver.probeAllowed Receiver.depthAllowed Receiver.ownQuestions Receiver.questions Receiver.withBuffer Receiver.playChannel Receiver.resetChannel Receiver.setDisplay Receiver.setChannel Receiver.audioInto Receiver.shownRow Receiver.chunkResult Receiver.waterfallInto Receiver.onSide Receiver.onClock Receiver.countsAfter Receiver.countHeader Receiver.passedOver Receiver.dispatch Receiver.takeDatagram Receiver.accept Receiver.decide Receiver.step Receiver.run Receiver.streamLine Receiver.lineOf Receiver.onlyCalls Receiver.onlyEvents Receiver.lineState Receiver.ofPlay Receiver.isAccepted Receiver.tally Receiver.tallyFrom Receiver.sinceReset Tape.wordsOf Tape.endsInPart Tape.bytesOf Tape.wordsFor Tape.padding Tape.twoWords Tape.wide Tape.sideBit Tape.adaptiveBit Tape.headWord Tape.wordOf Tape.sideIn Tape.adaptiveIn Tape.clockHead Tape.named Tape.wordIn Tape.bodyLength Tape.headOf Tape.bodyOf Tape.callWords Tape.callOf Tape.paddedWithZeros Tape.foundBody Tape.foundWord Tape.find Tape.before Tape.goOn Tape.callsFrom Tape.setupOf Tape.withSetup Tape.afterFirst Tape.readWords Tape.read Tape.callFits Tape.setupBody Tape.setupWords Tape.setupFits Tape.behind Tape.writeCalls Tape.writeWords Tape.inBytes Tape.write Tape.putResult Tape.putWords Tape.putSetup Tape.putCall Tape.putEnd Replay.digitsBefore Replay.decimal Replay.signedDecimal Replay.hexDigit Replay.hexDigits Replay.hexBits Replay.rest Replay.line Replay.sideLetter Replay.playLine Replay.rowLine Replay.refusedLine Replay.streamSide Replay.sideOf Replay.answerLine Replay.eventLines Replay.channelLine Replay.incomingLine Replay.orDash Replay.clockLine Replay.closingLines Replay.sessionLines Replay.badTapeLine Replay.tapeLines Replay.replay
 computes = tt
 
 -- ---- the jitter buffer: samples are numbers here, and the filler is 0
@@ -219,10 +222,6 @@ tapeCalls = datagram tapeDatagram ∷ play A 2 ∷ []
 tape : Tape
 tape = record { setup = tapeSetup; calls = tapeCalls }
 
--- replay's areas
-replayAreas : Lent
-replayAreas = record { floats = 16384; words = 16384 }
-
 tapeRun : Run
 tapeRun = run replayAreas tapeCalls (fresh tapeSetup)
 
@@ -230,6 +229,21 @@ tapeRun = run replayAreas tapeCalls (fresh tapeSetup)
 answers : List Event → List Answer
 answers [] = []
 answers (e ∷ es) = e .answer ∷ answers es
+
+-- what replay prints of it:
+--   P A 2 0 0 3f800000 bf800000
+--   A 1 1 0 0 0 0 0 0
+--   B 0 0 0 0 0 0 0 0
+--   I 1 1 0 0 0 0 0
+--   C - - -
+printed : List ℕ
+printed =
+    80 ∷ 32 ∷ 65 ∷ 32 ∷ 50 ∷ 32 ∷ 48 ∷ 32 ∷ 48 ∷ 32 ∷ 51 ∷ 102 ∷ 56 ∷ 48 ∷ 48 ∷ 48 ∷ 48 ∷ 48 ∷ 32 ∷ 98 ∷ 102 ∷ 56 ∷ 48 ∷ 48 ∷ 48 ∷ 48 ∷ 48 ∷ 10
+    ∷ 65 ∷ 32 ∷ 49 ∷ 32 ∷ 49 ∷ 32 ∷ 48 ∷ 32 ∷ 48 ∷ 32 ∷ 48 ∷ 32 ∷ 48 ∷ 32 ∷ 48 ∷ 32 ∷ 48 ∷ 10
+    ∷ 66 ∷ 32 ∷ 48 ∷ 32 ∷ 48 ∷ 32 ∷ 48 ∷ 32 ∷ 48 ∷ 32 ∷ 48 ∷ 32 ∷ 48 ∷ 32 ∷ 48 ∷ 32 ∷ 48 ∷ 10
+    ∷ 73 ∷ 32 ∷ 49 ∷ 32 ∷ 49 ∷ 32 ∷ 48 ∷ 32 ∷ 48 ∷ 32 ∷ 48 ∷ 32 ∷ 48 ∷ 32 ∷ 48 ∷ 10
+    ∷ 67 ∷ 32 ∷ 45 ∷ 32 ∷ 45 ∷ 32 ∷ 45 ∷ 10
+    ∷ []
 
 pub record TapeSession : Type 0 where
   -- it decodes to its setup and two calls
@@ -250,9 +264,15 @@ pub record TapeSession : Type 0 where
   line-C : (tapeRun .after .clock .timing ≡ none) × (tapeRun .after .clock .oneWay ≡ none)
   -- they encode to the same words
   encodes : write tape ≡ written (bytesOf tapeWords)
+  -- and this is what replay prints
+  prints : replay (bytesOf tapeWords) ≡ printed
+  -- the empty tape, a word behind the end, and a setup with packet 0: only the X line
+  prints-bad : (replay [] ≡ 88 ∷ 32 ∷ 49 ∷ 49 ∷ 32 ∷ 48 ∷ 10 ∷ [])
+      × (replay (bytesOf (tapeWords ++ (0 ∷ []))) ≡ 88 ∷ 32 ∷ 49 ∷ 49 ∷ 32 ∷ 50 ∷ 49 ∷ 10 ∷ [])
+      × (replay (bytesOf (0xE0000000 ∷ replicate 12 0 ++ (0 ∷ []))) ≡ 88 ∷ 32 ∷ 49 ∷ 10 ∷ [])
 
 pub tape-session : TapeSession
-unfolding computes counted-as tapeWords tapeSetup tapeDatagram tapeCalls tape replayAreas tapeRun answers
+unfolding computes counted-as tapeWords tapeSetup tapeDatagram tapeCalls tape tapeRun answers printed
 tape-session =
     record {
       decodes = refl;
@@ -263,6 +283,8 @@ tape-session =
       line-I = (refl, refl, refl);
       line-C = (refl, refl);
       encodes = refl;
+      prints = refl;
+      prints-bad = (refl, refl, refl);
     }
 
 -- ---- sessions of our own at the edges
