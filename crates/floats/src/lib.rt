@@ -1,0 +1,110 @@
+// The float helpers of the receiver, at f32. Each takes every float: a NaN, an infinity, -0 and a
+// subnormal are answered as the definition that the contract names answers them.
+ghost use mathlib.Core.Path.{_≡_};
+ghost use Rattle.model.specs.Floats.{finite, asUnsigned, maxf, clampf, fromBits, toBits, sample};
+
+// Whether x is neither a NaN nor an infinity.
+pub fn is_finite(x: f32) -> bool
+    ensures { λ r. ⌜ r ≡ finite x ⌝ }
+{
+    let top: f32 = 1.0 / 0.0;
+    if x < top { -top < x } else { false }
+}
+
+// The larger of a and b. A NaN is skipped: the other one is the answer.
+pub fn max(a: f32, b: f32) -> f32
+    ensures { λ r. ⌜ r ≡ maxf a b ⌝ }
+{
+    if a < b {
+        return b;
+    }
+    if a != a { b } else { a }
+}
+
+// x, or the end of the range that it is beyond. A NaN stays a NaN.
+pub fn clamp(x: f32, low: f32, high: f32) -> f32
+    ensures { λ r. ⌜ r ≡ clampf x low high ⌝ }
+{
+    if x < low {
+        low
+    } else if high < x {
+        high
+    } else {
+        x
+    }
+}
+
+// The float of a bit pattern. A NaN's pattern gives a NaN, of no particular payload.
+pub fn from_bits(b: u32) -> f32
+    ensures { λ r. ⌜ r ≡ fromBits b ⌝ }
+{
+    if b % 0x8000_0000 > 0x7f80_0000 {
+        0.0 / 0.0
+    } else {
+        f32::from_bits(b)
+    }
+}
+
+// The bit pattern of x. Every NaN gives 7fc00000.
+pub fn to_bits(x: f32) -> u32
+    ensures { λ r. ⌜ r ≡ toBits x ⌝ }
+{
+    if x != x { 0x7fc0_0000 } else { f32::to_bits(x) }
+}
+
+// A sample of two bytes, little-endian and signed, as a part of 32767.
+pub fn sample(lo: u8, hi: u8) -> f32
+    ensures { λ r. ⌜ r ≡ sample lo hi ⌝ }
+{
+    let b = (lo as u32) + 256 * (hi as u32);
+    if b < 0x8000 {
+        std::num::nearest_u32_to_f32(b) / 32767.0
+    } else {
+        -std::num::nearest_u32_to_f32(0x1_0000 - b) / 32767.0
+    }
+}
+
+// x without its fraction, as a u8: what lies outside goes to the nearest end, and a NaN to 0.
+pub fn as_u8(x: f32) -> u8
+    ensures { λ r. ⌜ r ≡ asUnsigned 8 x ⌝ }
+{
+    if x > -1.0 {
+        if x < 256.0 {
+            std::num::truncating_f32_to_u64(x) as u8
+        } else {
+            255
+        }
+    } else {
+        0
+    }
+}
+
+// x without its fraction, as a u32, in the same way.
+pub fn as_u32(x: f32) -> u32
+    ensures { λ r. ⌜ r ≡ asUnsigned 32 x ⌝ }
+{
+    if x > -1.0 {
+        if x < 4294967296.0 {
+            std::num::truncating_f32_to_u64(x) as u32
+        } else {
+            u32::MAX
+        }
+    } else {
+        0
+    }
+}
+
+// x without its fraction, as a usize, in the same way.
+pub fn as_usize(x: f32) -> usize
+    ensures { λ r. ⌜ r ≡ asUnsigned 64 x ⌝ }
+{
+    if x > -1.0 {
+        if x < 18446744073709551616.0 {
+            std::num::truncating_f32_to_u64(x) as usize
+        } else {
+            usize::MAX
+        }
+    } else {
+        0
+    }
+}
