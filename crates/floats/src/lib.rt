@@ -1,7 +1,11 @@
 // The float helpers of the receiver, at f32. Each takes every float: a NaN, an infinity, -0 and a
 // subnormal are answered as the definition that the contract names answers them.
 ghost use mathlib.Core.Path.{_≡_};
-ghost use Rattle.model.specs.Floats.{finite, asUnsigned, maxf, clampf, fromBits, toBits, sample};
+ghost use mathlib.Core.Bool.{false};
+ghost use lib.IntN.{pos};
+ghost use lib.Dec.{T};
+ghost use lib.Ieee.{fin, lt};
+ghost use Rattle.model.specs.Floats.{f0, finite, asUnsigned, roundHalfAway, maxf, clampf, fromBits, toBits, sample};
 
 // Whether x is neither a NaN nor an infinity.
 pub fn is_finite(x: f32) -> bool
@@ -107,4 +111,27 @@ pub fn as_usize(x: f32) -> usize
     } else {
         0
     }
+}
+
+// The whole number nearest to x, half away from zero, with x's sign: -0.3 gives -0. From 2^23 on
+// every float is whole.
+pub fn round(x: f32) -> f32
+    ensures { λ r. ⌜ r ≡ roundHalfAway x ⌝ }
+{
+    if x > 0.0 {
+        if x < 8388608.0 { half_up(x) } else { x }
+    } else if x < 0.0 {
+        if x > -8388608.0 { -half_up(-x) } else { x }
+    } else {
+        x
+    }
+}
+
+// The whole number nearest to x, half up. x + x is exact, and its whole part has the half as its
+// last digit.
+fn half_up(x: f32) -> f32
+    requires { ⌜ T (lt f0 x) ⌝ ∗ ⌜ T (lt x (fin false 1 (pos 23))) ⌝ }
+    ensures { λ r. ⌜ r ≡ roundHalfAway x ⌝ }
+{
+    ((std::num::truncating_f32_to_u64(x + x) + 1) / 2) as f32
 }
