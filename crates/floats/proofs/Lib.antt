@@ -1,6 +1,8 @@
 pub mod Doubling
 pub mod HalfUp
+pub mod LeadingDigits
 pub mod Nan
+pub mod Ordered
 pub mod Saturate
 pub mod Sign
 pub mod WholePart

@@ -2,10 +2,12 @@
 // subnormal are answered as the definition that the contract names answers them.
 ghost use mathlib.Core.Path.{_≡_};
 ghost use mathlib.Core.Bool.{false};
+ghost use Prim.Native.Nat.{_<_, _^_, compare};
 ghost use lib.IntN.{pos};
 ghost use lib.Dec.{T};
+ghost use lib.Ieee as Ieee;
 ghost use lib.Ieee.{fin, lt};
-ghost use Rattle.model.specs.Floats.{f0, finite, asUnsigned, roundHalfAway, maxf, clampf, fromBits, toBits, sample};
+ghost use Rattle.model.specs.Floats.{f0, finite, asUnsigned, nearest, natf, roundHalfAway, maxf, clampf, fromBits, toBits, sample};
 
 // Whether x is neither a NaN nor an infinity.
 pub fn is_finite(x: f32) -> bool
@@ -134,4 +136,46 @@ fn half_up(x: f32) -> f32
     ensures { λ r. ⌜ r ≡ roundHalfAway x ⌝ }
 {
     ((std::num::truncating_f32_to_u64(x + x) + 1) / 2) as f32
+}
+
+// The f32 nearest to n; where two are as near, the one whose last digit is even.
+pub fn nearest_i64_to_f32(n: i64) -> f32
+    ensures { λ r. ⌜ r ≡ nearest n ⌝ }
+{
+    if n >= 0 {
+        nearest_u64_to_f32(n as u64)
+    } else {
+        // -n does not fit at i64::MIN
+        -nearest_u64_to_f32(((0 - (n + 1)) as u64) + 1)
+    }
+}
+
+// The same of an n that is not negative. From 2^24 on, the 24 leading digits are kept and `dropped`
+// digits are rounded off. A pattern has the exponent's field above the digits, and the leading
+// digit adds one to the field, as it also does where rounding carries into a 25th digit.
+fn nearest_u64_to_f32(n: u64) -> f32
+    ensures { λ r. ⌜ r ≡ natf n ⌝ }
+{
+    let zeros = u64::leading_zeros(n);
+    if zeros >= 40 {
+        return n as f32;
+    }
+    let dropped = 40 - zeros;
+    let unit = 1u64 << dropped;
+    let kept = nearer(n / unit, n % unit * 2, unit);
+    f32::from_bits((dropped + 149) * 0x80_0000 + (kept as u32))
+}
+
+// q, or one more: by how twice the rest compares with the unit, and at a tie the even one.
+fn nearer(q: u64, twice: u64, unit: u64) -> u64
+    requires { ⌜ q < 2 ^ 24 ⌝ }
+    ensures { λ r. ⌜ r ≡ Ieee.nearest q (compare twice unit) ⌝ }
+{
+    if twice < unit {
+        q
+    } else if twice == unit {
+        q + q % 2
+    } else {
+        q + 1
+    }
 }
