@@ -1,6 +1,7 @@
 -- The model's clock, read out of the struct. Assumes nothing.
 use mathlib.Core.Option.{Option, none, some}
 use lib.IntN.{ℤ}
+use lib.Ieee.{Float}
 use Rattle.model.specs.Clock as Clock
 use Rattle.audio_metrics.specs.declared.ClockTiming.{ClockTiming}
 use Rattle.audio_metrics.specs.declared.Timing.{Timing}
@@ -10,6 +11,8 @@ use Rattle.audio_metrics.specs.declared.OneWay.the-variants as OneWay
 use Rattle.audio_metrics.specs.declared.JitterDepth.{JitterDepth}
 use Rattle.audio_metrics.specs.declared.Jitter.{Jitter}
 use Rattle.audio_metrics.specs.declared.Jitter.the-variants as Jitter
+use Rattle.audio_metrics.specs.declared.Reading.{Reading}
+use Rattle.audio_metrics.specs.declared.Reading.the-variants as Reading
 use Rattle.audio_metrics.specs.declared.AudioMetrics.{AudioMetrics}
 
 abbrev pub knownOf : ClockTiming → Clock.Timing
@@ -23,9 +26,17 @@ abbrev pub oneWayOf : OneWay → Option ℤ
 oneWayOf OneWay.Unknown = none
 oneWayOf (OneWay.Known n) = some n
 
+abbrev pub depthKnown : JitterDepth → Clock.Depth
+depthKnown d = record { average = d .«jitter_avg_ms»; peak = d .«jitter_peak_ms» }
+
 abbrev pub depthOf : Jitter → Option Clock.Depth
 depthOf Jitter.Unknown = none
-depthOf (Jitter.Known d) = some (record { average = d .«jitter_avg_ms»; peak = d .«jitter_peak_ms» })
+depthOf (Jitter.Known d) = some (depthKnown d)
+
+-- a reading that may be absent
+abbrev pub readingOf : Reading → Option Float
+readingOf Reading.Unknown = none
+readingOf (Reading.Ms x) = some x
 
 abbrev pub clockOf : AudioMetrics → Clock.Clock
 clockOf m =

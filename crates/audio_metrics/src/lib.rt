@@ -2,11 +2,11 @@
 // The state goes in by value and comes back. A number that is not there yet is a case of its own.
 // The functions take what the receiver's questions let through: a held clock, and numbers in the range of question 9.
 ghost use mathlib.Core.Path.{_≡_};
-ghost use Prim.Native.Nat.{_<_, _^_};
-ghost use lib.IntN.{natAbs, pos};
-ghost use Rattle.model.specs.Clock.{stepToward, leastAfter, passesGate, timingAfter, recordProbe};
+ghost use Prim.Native.Nat.{_<_, _≤_, _^_};
+ghost use lib.IntN.{natAbs};
+ghost use Rattle.model.specs.Clock.{stepToward, leastAfter, passesGate, timingAfter, recordProbe, samplesMs, depthAfter, recordDepth, recordTransmit, inMs, oneWayMs, roundTripMs, offsetMs, depthMs, depthPeakMs};
 ghost use Rattle.audio_metrics.specs.Requires.{StepFits, ProbeFits, Probed};
-ghost use Rattle.audio_metrics.specs.Views.{timingOf, knownOf, clockOf};
+ghost use Rattle.audio_metrics.specs.Views.{timingOf, knownOf, depthKnown, depthOf, readingOf, clockOf};
 
 // Server − client clock offset, the last round trip, and the running least that gates clean offsets.
 pub struct ClockTiming {
@@ -100,6 +100,45 @@ fn timing_after(timing: Timing, offset: i64, rtt: u64) -> ClockTiming
     }
 }
 
+// A number of samples in ms, at 48,000 a second.
+fn samples_ms(samples: usize) -> f32
+    requires { ⌜ samples ≤ 16777216 ⌝ }
+    ensures { λ r. ⌜ r ≡ samplesMs samples ⌝ }
+{
+    samples as f32 / 48000.0 * 1000.0
+}
+
+// The depth after a new one: the first is taken whole, then the average moves slowly and the peak decays.
+fn depth_after(jitter: Jitter, now: f32) -> JitterDepth
+    ensures { λ r. ⌜ depthKnown r ≡ depthAfter «now» (depthOf jitter) ⌝ }
+{
+    let Jitter::Known(d) = jitter else {
+        return JitterDepth {
+            jitter_avg_ms: now,
+            jitter_peak_ms: now,
+        };
+    };
+    let avg = d.jitter_avg_ms;
+    let peak = d.jitter_peak_ms;
+    JitterDepth {
+        jitter_avg_ms: avg + 0.01 * (now - avg),
+        jitter_peak_ms: floats::max(now, peak * 0.999),
+    }
+}
+
+// Nanoseconds in ms.
+fn in_ms(ns: i64) -> f32
+    ensures { λ r. ⌜ r ≡ inMs ns ⌝ }
+{
+    floats::nearest_i64_to_f32(ns) / 1000000.0
+}
+
+// A reading that is not there before its first number.
+pub enum Reading {
+    Unknown,
+    Ms(f32),
+}
+
 impl AudioMetrics {
     // Feeds one clock-offset probe. A round trip of 0 or less is ignored.
     pub fn record_probe(self, offset_ns: i64, rtt_ns: i64) -> AudioMetrics
@@ -123,5 +162,140 @@ impl AudioMetrics {
             resyncs: self.resyncs,
             tx_ring_peak_ms: self.tx_ring_peak_ms,
         }
+    }
+
+    // Publishes the depth of the receive buffer with its four counts.
+    pub fn publish_jitter(
+        self,
+        samples: usize,
+        conceals: u64,
+        late: u64,
+        overflow: u64,
+        resyncs: u64,
+    ) -> AudioMetrics
+        requires { ⌜ samples ≤ 16777216 ⌝ }
+        ensures { λ r. ⌜ clockOf r ≡ recordDepth samples (record { conceals = conceals; late = late; overflow = overflow; resyncs = resyncs }) (clockOf self) ⌝ }
+    {
+        let timing = self.timing;
+        let one_way = self.one_way;
+        let jitter = self.jitter;
+        let next = depth_after(jitter, samples_ms(samples));
+        AudioMetrics {
+            timing,
+            one_way,
+            jitter: Jitter::Known(next),
+            conceals,
+            late,
+            overflow,
+            resyncs,
+            tx_ring_peak_ms: self.tx_ring_peak_ms,
+        }
+    }
+
+    // Notes the depth of the transmit ring.
+    pub fn note_tx_ring(self, samples: usize) -> AudioMetrics
+        requires { ⌜ samples ≤ 16777216 ⌝ }
+        ensures { λ r. ⌜ clockOf r ≡ recordTransmit samples (clockOf self) ⌝ }
+    {
+        let timing = self.timing;
+        let one_way = self.one_way;
+        let jitter = self.jitter;
+        let peak = self.tx_ring_peak_ms;
+        AudioMetrics {
+            timing,
+            one_way,
+            jitter,
+            conceals: self.conceals,
+            late: self.late,
+            overflow: self.overflow,
+            resyncs: self.resyncs,
+            tx_ring_peak_ms: floats::max(samples_ms(samples), peak * 0.99),
+        }
+    }
+
+    // The smoothed one-way delay in ms, once known.
+    pub fn rx_one_way_ms(self) -> Reading
+        ensures { λ r. ⌜ readingOf r ≡ oneWayMs (clockOf self) ⌝ }
+    {
+        let one_way = self.one_way;
+        let OneWay::Known(n) = one_way else {
+            return Reading::Unknown;
+        };
+        Reading::Ms(in_ms(n))
+    }
+
+    // The last round trip in ms, once a probe was taken.
+    pub fn rtt_ms(self) -> Reading
+        ensures { λ r. ⌜ readingOf r ≡ roundTripMs (clockOf self) ⌝ }
+    {
+        let timing = self.timing;
+        let Timing::Known(t) = timing else {
+            return Reading::Unknown;
+        };
+        Reading::Ms(floats::nearest_u64_to_f32(t.rtt_ns) / 1000000.0)
+    }
+
+    // The clock offset in ms, once known.
+    pub fn clock_offset_ms(self) -> Reading
+        ensures { λ r. ⌜ readingOf r ≡ offsetMs (clockOf self) ⌝ }
+    {
+        let timing = self.timing;
+        let Timing::Known(t) = timing else {
+            return Reading::Unknown;
+        };
+        Reading::Ms(in_ms(t.offset_ns))
+    }
+
+    // The average depth of the receive buffer in ms: 0 before the first.
+    pub fn jitter_ms(self) -> f32
+        ensures { λ r. ⌜ r ≡ depthMs (clockOf self) ⌝ }
+    {
+        let jitter = self.jitter;
+        let Jitter::Known(d) = jitter else {
+            return 0.0;
+        };
+        d.jitter_avg_ms
+    }
+
+    // Its recent peak in ms: 0 before the first.
+    pub fn jitter_peak_ms(self) -> f32
+        ensures { λ r. ⌜ r ≡ depthPeakMs (clockOf self) ⌝ }
+    {
+        let jitter = self.jitter;
+        let Jitter::Known(d) = jitter else {
+            return 0.0;
+        };
+        d.jitter_peak_ms
+    }
+
+    // The recent peak of the transmit ring in ms.
+    pub fn tx_ring_peak_ms(self) -> f32
+        ensures { λ r. ⌜ r ≡ clockOf self .transmitPeak ⌝ }
+    {
+        self.tx_ring_peak_ms
+    }
+
+    pub fn conceals(self) -> u64
+        ensures { λ r. ⌜ r ≡ clockOf self .counts .conceals ⌝ }
+    {
+        self.conceals
+    }
+
+    pub fn late(self) -> u64
+        ensures { λ r. ⌜ r ≡ clockOf self .counts .late ⌝ }
+    {
+        self.late
+    }
+
+    pub fn overflow(self) -> u64
+        ensures { λ r. ⌜ r ≡ clockOf self .counts .overflow ⌝ }
+    {
+        self.overflow
+    }
+
+    pub fn resyncs(self) -> u64
+        ensures { λ r. ⌜ r ≡ clockOf self .counts .resyncs ⌝ }
+    {
+        self.resyncs
     }
 }

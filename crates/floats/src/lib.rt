@@ -153,7 +153,7 @@ pub fn nearest_i64_to_f32(n: i64) -> f32
 // The same of an n that is not negative. From 2^24 on, the 24 leading digits are kept and `dropped`
 // digits are rounded off. A pattern has the exponent's field above the digits, and the leading
 // digit adds one to the field, as it also does where rounding carries into a 25th digit.
-fn nearest_u64_to_f32(n: u64) -> f32
+pub fn nearest_u64_to_f32(n: u64) -> f32
     ensures { λ r. ⌜ r ≡ natf n ⌝ }
 {
     let zeros = u64::leading_zeros(n);

@@ -1,0 +1,26 @@
+-- `audio_metrics::AudioMetrics::jitter_ms` meets its contract. Assumes nothing.
+use mathlib.Core.Path.{_≡_, refl, sym, ap}
+use Rattle.model.specs.Clock.{depthMs}
+use Rattle.audio_metrics.proofs.Constants.{f-zero}
+use borrow.Author.Needs.{needs}
+use Rattle.audio_metrics.proofs.AudioMetrics.jitter_ms.Statement.{statement}
+use Rattle.audio_metrics.proofs.AudioMetrics.jitter_ms.Tie as tie
+use Rattle.audio_metrics.proofs.AudioMetrics.jitter_ms.Reads as reads
+use Rattle.audio_metrics.proofs.AudioMetrics.jitter_ms.Lts as lts
+
+enum-known-jitter : tie.Need-enum-known-jitter
+enum-known-jitter c = search needs
+
+enum-told : tie.Need-enum-told
+enum-told c = search needs
+
+returns : tie.Need-returns
+unfolding depthMs
+returns c = rw (f-zero, c .enum-told .given .1)
+
+returns-2 : tie.Need-returns-2
+unfolding depthMs
+returns-2 c = rw (c .before .jitter .given .1)
+
+pub jitter-ms-spec : {M : Type 1} → statement M
+jitter-ms-spec = tie.close (tie.spec enum-known-jitter enum-told returns returns-2)
