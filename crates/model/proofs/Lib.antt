@@ -1,4 +1,5 @@
 pub mod BoolLaws
+pub mod Constants
 pub mod ListLaws
 pub mod BytesLaws
 pub mod FieldRange

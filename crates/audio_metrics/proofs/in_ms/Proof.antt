@@ -3,7 +3,7 @@ use mathlib.Core.Path.{_≡_, refl, sym, ap}
 use mir.Syntax.{w64}
 use mir.ValLaws.{toZ-ofZ}
 use Rattle.model.specs.Clock.{inMs}
-use Rattle.audio_metrics.proofs.Constants.{f-1000000}
+use Rattle.model.proofs.Constants.{f-1000000}
 use borrow.Author.Needs.{needs}
 use Rattle.audio_metrics.proofs.in_ms.Statement.{statement}
 use Rattle.audio_metrics.proofs.in_ms.Tie as tie

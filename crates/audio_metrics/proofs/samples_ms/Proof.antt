@@ -3,7 +3,7 @@ use mathlib.Core.Path.{_≡_, refl, sym, ap}
 use lib.Dec.{le→leb}
 use lib.Ieee as Ieee
 use Rattle.model.specs.Clock.{samplesMs}
-use Rattle.audio_metrics.proofs.Constants.{f-48000, f-1000}
+use Rattle.model.proofs.Constants.{f-48000, f-1000}
 use Rattle.audio_metrics.proofs.samples_ms.Statement.{statement}
 use Rattle.audio_metrics.proofs.samples_ms.Tie as tie
 use Rattle.audio_metrics.proofs.samples_ms.Reads as reads

@@ -1,7 +1,7 @@
 -- `audio_metrics::AudioMetrics::jitter_peak_ms` meets its contract. Assumes nothing.
 use mathlib.Core.Path.{_≡_, refl, sym, ap}
 use Rattle.model.specs.Clock.{depthPeakMs}
-use Rattle.audio_metrics.proofs.Constants.{f-zero}
+use Rattle.model.proofs.Constants.{f-zero}
 use borrow.Author.Needs.{needs}
 use Rattle.audio_metrics.proofs.AudioMetrics.jitter_peak_ms.Statement.{statement}
 use Rattle.audio_metrics.proofs.AudioMetrics.jitter_peak_ms.Tie as tie

@@ -1,7 +1,7 @@
 -- `audio_metrics::AudioMetrics::rtt_ms` meets its contract. Assumes nothing.
 use mathlib.Core.Path.{_≡_, refl, sym, ap}
 use Rattle.model.specs.Clock.{roundTripMs, inMs}
-use Rattle.audio_metrics.proofs.Constants.{f-1000000}
+use Rattle.model.proofs.Constants.{f-1000000}
 use borrow.Author.Needs.{needs}
 use Rattle.audio_metrics.proofs.AudioMetrics.rtt_ms.Statement.{statement}
 use Rattle.audio_metrics.proofs.AudioMetrics.rtt_ms.Tie as tie
