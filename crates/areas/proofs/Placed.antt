@@ -1,0 +1,148 @@
+-- Laws of `placed`: what stands at a place of it, in a part of it, and after one write more, upwards or downwards. Assumes nothing.
+use mathlib.Core.Path.{_≡_, refl, sym, _∙_, ap}
+use mathlib.Core.List.{List, [], _∷_, _++_, append-assoc}
+use Prim.Native.Nat.{ℕ, suc, _+_, _-_, _≤_, _<_}
+use native.Mathlib.Nat.{add-zero, add-suc}
+use native.Mathlib.Numerals.{add-one}
+use native.Mathlib.Omega.{arith}
+use lib.ListN.{length, take, drop, getD, set, replicate, length-append, length-take, length-drop, take-append-drop, List·getD-append, getD-replicate, length-replicate}
+use lib.Seq.{take-suc, drop-cons, set-at, getD-append-add, getD-drop, getD-take, append-snoc, length-take-le, ext-getD, take-length, drop-length, take-all}
+use Rattle.model.specs.Bytes.{part, placed}
+use Rattle.model.proofs.ListLaws.{placed-length}
+
+module _ {ℓ} {A : Type ℓ} where
+  -- ---- parts
+
+  pub part-length : (at n : ℕ) (xs : List A) → at + n ≤ length xs → length (part at n xs) ≡ n
+  part-length at n xs fits = simp (length-take, length-drop) (omega arith)
+
+  pub getD-part : (d : A) (at n : ℕ) (xs : List A) (i : ℕ) → i < n → getD (part at n xs) i d ≡ getD xs (at + i) d
+  getD-part d at n xs i h = rw (getD-take, getD-drop)
+
+  -- ---- what stands at a place
+
+  pub placed-before : (d : A) (at : ℕ) (ys xs : List A) (k : ℕ) → at ≤ length xs → k < at → getD (placed at ys xs) k d ≡ getD xs k d
+  unfolding placed
+  placed-before d at ys xs k fits h =
+      let l : length (take at xs) ≡ at = length-take-le at xs fits in
+      List·getD-append (take at xs) _ d k (omega arith) ∙ getD-take at xs k d h
+
+  pub placed-within : (d : A) (at : ℕ) (ys xs : List A) (i : ℕ) → at ≤ length xs → i < length ys → getD (placed at ys xs) (at + i) d ≡ getD ys i d
+  unfolding placed
+  placed-within d at ys xs i fits h =
+      let l : length (take at xs) ≡ at = length-take-le at xs fits in
+      let e : at + i ≡ length (take at xs) + i = omega arith in
+      rw (e, getD-append-add) (List·getD-append ys _ d i h)
+
+  pub placed-behind : (d : A) (at : ℕ) (ys xs : List A) (k : ℕ) → at ≤ length xs → at + length ys ≤ k → getD (placed at ys xs) k d ≡ getD xs k d
+  unfolding placed
+  placed-behind d at ys xs k fits h =
+      let l : length (take at xs) ≡ at = length-take-le at xs fits in
+      let r = k - (at + length ys) in
+      let e : k ≡ length (take at xs) + (length ys + r) = omega arith in
+      let f : at + length ys + r ≡ k = omega arith in
+      ap (λ (n : ℕ). getD (take at xs ++ (ys ++ drop (at + length ys) xs)) n d) e
+      ∙ getD-append-add (take at xs) _ (length ys + r) d
+      ∙ getD-append-add ys _ r d
+      ∙ getD-drop (at + length ys) xs r d
+      ∙ ap (λ (n : ℕ). getD xs n d) f
+
+  -- ---- what stands in a part
+
+  pub part-before : (d : A) (at : ℕ) (ys xs : List A) (k n : ℕ) → at + length ys ≤ length xs → k + n ≤ at → part k n (placed at ys xs) ≡ part k n xs
+  part-before d at ys xs k n fits h =
+      let l = placed-length at ys xs fits in
+      let a = part-length k n (placed at ys xs) (omega arith) in
+      let b = part-length k n xs (omega arith) in
+      ext-getD d _ _ (a ∙ sym b) (λ i q.
+      let iq : i < n = omega arith in
+      rw (getD-part d k n (placed at ys xs) i iq, getD-part d k n xs i iq) (placed-before d at ys xs (k + i) (omega arith) (omega arith)))
+
+  pub part-behind : (d : A) (at : ℕ) (ys xs : List A) (k n : ℕ) → at + length ys ≤ k → k + n ≤ length xs → part k n (placed at ys xs) ≡ part k n xs
+  part-behind d at ys xs k n h fits =
+      let l = placed-length at ys xs (omega arith) in
+      let a = part-length k n (placed at ys xs) (omega arith) in
+      let b = part-length k n xs (omega arith) in
+      ext-getD d _ _ (a ∙ sym b) (λ i q.
+      let iq : i < n = omega arith in
+      rw (getD-part d k n (placed at ys xs) i iq, getD-part d k n xs i iq) (placed-behind d at ys xs (k + i) (omega arith) (omega arith)))
+
+  pub part-within : (d : A) (at : ℕ) (ys xs : List A) (i n : ℕ) → at + length ys ≤ length xs → i + n ≤ length ys → part (at + i) n (placed at ys xs) ≡ part i n ys
+  part-within d at ys xs i n fits h =
+      let l = placed-length at ys xs fits in
+      let a = part-length (at + i) n (placed at ys xs) (omega arith) in
+      let b = part-length i n ys h in
+      ext-getD d _ _ (a ∙ sym b) (λ j q.
+      let jq : j < n = omega arith in
+      let e : at + i + j ≡ at + (i + j) = omega arith in
+      rw (getD-part d (at + i) n (placed at ys xs) j jq, getD-part d i n ys j jq, e) (placed-within d at ys xs (i + j) (omega arith) (omega arith)))
+
+  -- ---- one write more
+
+  pub placed-none : (at : ℕ) (ys xs : List A) → length ys ≡ 0 → xs ≡ placed at ys xs
+  unfolding placed
+  placed-none at [] xs e = rw (add-zero at, take-append-drop)
+  placed-none at (y ∷ ys) xs e = absurd (omega arith)
+
+  pub placed-up : (d : A) (at i : ℕ) (ys xs : List A) → i < length ys → at + length ys ≤ length xs
+      → set (placed at (take i ys) xs) (at + i) (getD ys i d) ≡ placed at (take (i + 1) ys) xs
+  unfolding placed
+  placed-up d at i ys xs h fits =
+      let here : at + i < length xs = omega arith in
+      let front : length (take i ys) ≡ i = length-take-le i ys (omega arith) in
+      let front′ : length (take (suc i) ys) ≡ suc i = length-take-le (suc i) ys (omega arith) in
+      let head : length (take at xs ++ take i ys) ≡ at + i = simp (length-append, length-take) (omega arith) in
+      rw (add-one i, front, front′, ← append-assoc (take at xs) (take i ys) (drop (at + i) xs), drop-cons xs (at + i) d here, set-at _ _ _ _ _ head, take-suc ys i d h)
+      (simp (append-assoc, add-suc))
+
+  pub placed-down : (d : A) (at i : ℕ) (ys xs : List A) → i < length ys → at + length ys ≤ length xs
+      → set (placed (at + (i + 1)) (drop (i + 1) ys) xs) (at + i) (getD ys i d) ≡ placed (at + i) (drop i ys) xs
+  unfolding placed
+  placed-down d at i ys xs h fits =
+      let here : at + i < length xs = omega arith in
+      let head : length (take (at + i) xs) ≡ at + i = length-take-le (at + i) xs (omega arith) in
+      let step : at + (i + 1) ≡ suc (at + i) = omega arith in
+      let seam : suc (at + i) + length (drop (suc i) ys) ≡ at + i + length (drop i ys) = simp length-drop (omega arith) in
+      rw (step, add-one i, seam, take-suc xs (at + i) d here, append-assoc, set-at _ _ _ _ _ head, drop-cons ys i d h)
+
+  -- ---- fills
+
+  pub take-replicate : (i n : ℕ) (x : A) → i ≤ n → take i (replicate n x) ≡ replicate i x
+  take-replicate i n x h =
+      let a : length (take i (replicate n x)) ≡ i = simp (length-take, length-replicate) (omega arith) in
+      ext-getD x _ _ (a ∙ sym (length-replicate i x)) (λ k q.
+      let kq : k < i = omega arith in
+      rw (getD-take i (replicate n x) k x kq, getD-replicate n k x x (omega arith), getD-replicate i k x x kq))
+
+  -- ---- moves
+
+  pub move-down-step : (d : A) (from to n i : ℕ) (xs : List A) → to ≤ from → from + n ≤ length xs → i < n
+      → set (placed to (take i (part from n xs)) xs) (to + i) (getD (placed to (take i (part from n xs)) xs) (from + i) d)
+      ≡ placed to (take (i + 1) (part from n xs)) xs
+  move-down-step d from to n i xs le fits h =
+      let l = part-length from n xs fits in
+      let front : length (take i (part from n xs)) ≡ i = length-take-le i (part from n xs) (omega arith) in
+      rw (placed-behind d to (take i (part from n xs)) xs (from + i) (omega arith) (omega arith), ← getD-part d from n xs i h)
+      (placed-up d to i (part from n xs) xs (omega arith) (omega arith))
+
+  pub move-up-step : (d : A) (from to n i : ℕ) (xs : List A) → from ≤ to → to + n ≤ length xs → i < n
+      → set (placed (to + (i + 1)) (drop (i + 1) (part from n xs)) xs) (to + i) (getD (placed (to + (i + 1)) (drop (i + 1) (part from n xs)) xs) (from + i) d)
+      ≡ placed (to + i) (drop i (part from n xs)) xs
+  move-up-step d from to n i xs le fits h =
+      let l = part-length from n xs (omega arith) in
+      rw (placed-before d (to + (i + 1)) (drop (i + 1) (part from n xs)) xs (from + i) (omega arith) (omega arith), ← getD-part d from n xs i h)
+      (placed-down d to i (part from n xs) xs (omega arith) (omega arith))
+
+  pub copy-step : (d : A) (from to n i : ℕ) (ys xs : List A) → from + n ≤ length ys → to + n ≤ length xs → i < n
+      → set (placed to (take i (part from n ys)) xs) (to + i) (getD ys (from + i) d) ≡ placed to (take (i + 1) (part from n ys)) xs
+  copy-step d from to n i ys xs fits room h =
+      let l = part-length from n ys fits in
+      rw (← getD-part d from n ys i h) (placed-up d to i (part from n ys) xs (omega arith) (omega arith))
+
+  pub fill-step : (at n i : ℕ) (x : A) (xs : List A) → at + n ≤ length xs → i < n
+      → set (placed at (replicate i x) xs) (at + i) x ≡ placed at (replicate (i + 1) x) xs
+  fill-step at n i x xs fits h =
+      let l = length-replicate n x in
+      rw (← take-replicate i n x (omega arith), ← take-replicate (i + 1) n x (omega arith))
+      (let e = getD-replicate n i x x h in
+      rw e at (placed-up x at i (replicate n x) xs (omega arith) (omega arith)))
