@@ -2,6 +2,7 @@ pub mod BoolLaws
 pub mod Constants
 pub mod ListLaws
 pub mod BytesLaws
+pub mod ByteParts
 pub mod FieldRange
 pub mod SizeLaws
 pub mod Waiting

@@ -1,0 +1,2 @@
+// Framing of datagrams: the media header, and the time-sync packets.
+mod big_endian;
