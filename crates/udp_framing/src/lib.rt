@@ -1,2 +1,119 @@
-// Framing of datagrams: the media header, and the time-sync packets.
+// Framing of datagrams: the media header, the send time of an audio datagram, and the time-sync packets. All numbers
+// are big-endian.
 mod big_endian;
+
+ghost use mathlib.Core.Path.{_≡_};
+ghost use Rattle.model.specs.Framing.{parseHeader, validHeader, audioStart, audioSendTime};
+ghost use Rattle.udp_framing.specs.Views.{headerOf, headerFound, sendTimeFound};
+use big_endian::read_u8;
+use big_endian::read_u16;
+use big_endian::read_u32;
+use big_endian::read_u64;
+
+// "RS", at the front of each datagram.
+pub const MAGIC: u16 = 0x5253;
+
+// The version that is built. Version 2 has a send time between the header and the samples of an audio datagram, and
+// the time-sync packets. Version 1 is still valid.
+pub const VERSION: u8 = 2;
+
+pub const STREAM_TYPE_AUDIO: u8 = 1;
+
+pub const STREAM_TYPE_WATERFALL: u8 = 2;
+
+pub const STREAM_TYPE_AUDIO_VFO_B: u8 = 3;
+
+pub const STREAM_TYPE_WATERFALL_VFO_B: u8 = 4;
+
+pub const STREAM_TYPE_REGISTER_AUDIO: u8 = 10;
+
+pub const STREAM_TYPE_MIC_AUDIO: u8 = 11;
+// The probe of a clock: the header, whose sequence is the probe's number, and t1.
+pub const STREAM_TYPE_TIME_SYNC_REQUEST: u8 = 12;
+// The answer to a probe: the header with the probe's number, t1, t2 and t3.
+pub const STREAM_TYPE_TIME_SYNC_RESPONSE: u8 = 13;
+
+// The header's bytes.
+pub const HEADER_LEN: usize = 16;
+// The bytes of an audio datagram's send time.
+pub const AUDIO_SEND_WALL_NS_LEN: usize = 8;
+
+// Bytes 0 and 1: magic; 2: version; 3: stream type; 4 to 7: sequence; 8 to 15: timestamp.
+pub struct MediaHeader {
+    pub magic: u16,
+    pub version: u8,
+    pub stream_type: u8,
+    pub sequence: u32,
+    pub timestamp: u64,
+}
+
+pub enum ParsedHeader {
+    Header(MediaHeader),
+    // Under 16 bytes.
+    TooShort,
+}
+
+// The header at the front of a datagram. Its fields are not judged: see is_valid_header.
+pub fn parse_media_header(packet: &[u8]) -> ParsedHeader
+    ensures { λ r. ⌜ headerFound r ≡ parseHeader (now (packet .entry)) ⌝ }
+{
+    if packet.len() < HEADER_LEN {
+        return ParsedHeader::TooShort;
+    }
+    let magic = read_u16(packet, 0);
+    let version = read_u8(packet, 2);
+    let stream_type = read_u8(packet, 3);
+    let sequence = read_u32(packet, 4);
+    let timestamp = read_u64(packet, 8);
+    ParsedHeader::Header(MediaHeader {
+        magic,
+        version,
+        stream_type,
+        sequence,
+        timestamp,
+    })
+}
+
+// Whether the magic is right and the version is 1 or 2. Stream type and sequence are not judged.
+pub fn is_valid_header(header: MediaHeader) -> bool
+    ensures { λ r. ⌜ r ≡ validHeader (headerOf header) ⌝ }
+{
+    if header.magic != MAGIC {
+        return false;
+    }
+    if header.version < 1 {
+        return false;
+    }
+    header.version <= VERSION
+}
+
+// Where the samples of an audio datagram of that version begin.
+pub fn audio_samples_offset(version: u8) -> usize
+    ensures { λ r. ⌜ r ≡ audioStart version ⌝ }
+{
+    if version >= 2 {
+        HEADER_LEN + AUDIO_SEND_WALL_NS_LEN
+    } else {
+        HEADER_LEN
+    }
+}
+
+pub enum SendWall {
+    // Nanoseconds of the server's clock.
+    Ns(u64),
+    // Version 1, or a datagram that is too short.
+    Absent,
+}
+
+// The server's send time in an audio datagram.
+pub fn audio_send_wall_ns(header: MediaHeader, packet: &[u8]) -> SendWall
+    ensures { λ r. ⌜ sendTimeFound r ≡ audioSendTime (headerOf header) (now (packet .entry)) ⌝ }
+{
+    if header.version < 2 {
+        return SendWall::Absent;
+    }
+    if packet.len() < HEADER_LEN + AUDIO_SEND_WALL_NS_LEN {
+        return SendWall::Absent;
+    }
+    SendWall::Ns(read_u64(packet, HEADER_LEN))
+}
