@@ -1,14 +1,13 @@
 -- Bytes in two parts: a number is its high part and its low part, and what is written in two runs is written in one. Assumes nothing.
-use Prim.Native.Nat.{ℕ, zero, suc, _+_, _*_, _/_, _%_, _^_, _≤_, _<_}
-use mathlib.Core.Path.{_≡_, refl, sym, ap, _∙_}
-use mathlib.Core.List.{List, [], _∷_, _++_, append-assoc}
+use Prim.Native.Nat.{ℕ, _+_, _*_, _^_, _≤_, _<_}
+use mathlib.Core.Path.{_≡_, sym}
+use mathlib.Core.List.{List, [], _∷_, _++_}
 use native.Mathlib.Omega.{arith}
 use native.Mathlib.Nat.{mul-assoc, add-assoc, add-mul}
-use native.Mathlib.Numerals.{add-one}
 use lib.Pow.{pow-add}
-use lib.ListN.{length, take, drop, getD, length-append, length-take, length-drop}
+use lib.ListN.{length, drop, getD, length-append, length-take, length-drop}
 use lib.Seq.{take-add, drop-drop, drop-cons}
-use Rattle.model.specs.Bytes.{bigEndian, bigEndianBytes, bigEndianAt, part, placed}
+use Rattle.model.specs.Bytes.{bigEndian, bigEndianAt, part}
 
 pub big-endian-append : (xs ys : List ℕ) → bigEndian (xs ++ ys) ≡ bigEndian xs * 256 ^ length ys + bigEndian ys
 unfolding bigEndian

@@ -3,6 +3,7 @@ pub mod Constants
 pub mod ListLaws
 pub mod BytesLaws
 pub mod ByteParts
+pub mod TimePackets
 pub mod FieldRange
 pub mod SizeLaws
 pub mod Waiting

@@ -7,6 +7,10 @@ use Rattle.udp_framing.specs.declared.ParsedHeader.{ParsedHeader}
 use Rattle.udp_framing.specs.declared.ParsedHeader.the-variants as Parsed
 use Rattle.udp_framing.specs.declared.SendWall.{SendWall}
 use Rattle.udp_framing.specs.declared.SendWall.the-variants as Wall
+use Rattle.udp_framing.specs.declared.TimeSyncRequest.{TimeSyncRequest}
+use Rattle.udp_framing.specs.declared.TimeSyncRequest.the-variants as Request
+use Rattle.udp_framing.specs.declared.TimeSyncResponse.{TimeSyncResponse}
+use Rattle.udp_framing.specs.declared.TimeSyncResponse.the-variants as Response
 
 abbrev pub headerOf : MediaHeader → Header
 headerOf h =
@@ -27,3 +31,25 @@ headerFound Parsed.TooShort = none
 abbrev pub sendTimeFound : SendWall → Option ℕ
 sendTimeFound (Wall.Ns n) = some n
 sendTimeFound Wall.Absent = none
+
+-- ---- answers that may be a refusal
+
+-- a value, or a refusal's number
+pub data Answer (A : Type 0) : Type 0 where
+  accepted : A → Answer A
+  refused : ℕ → Answer A
+
+-- a value, or where there is none the refusal of that number
+abbrev pub orRefusal : {A : Type 0} → ℕ → Option A → Answer A
+orRefusal number none = refused number
+orRefusal number (some a) = accepted a
+
+-- the probe's number and t1, or refusal 10
+abbrev pub requestAnswer : TimeSyncRequest → Answer TimeRequest
+requestAnswer (Request.Numbers probe t1) = accepted (record { probe = probe; t1 = t1 })
+requestAnswer Request.Refused = refused 10
+
+-- the probe's number and three times, or refusal 10
+abbrev pub responseAnswer : TimeSyncResponse → Answer TimeResponse
+responseAnswer (Response.Numbers probe t1 t2 t3) = accepted (record { probe = probe; t1 = t1; t2 = t2; t3 = t3 })
+responseAnswer Response.Refused = refused 10

@@ -3,8 +3,8 @@
 mod big_endian;
 
 ghost use mathlib.Core.Path.{_≡_};
-ghost use Rattle.model.specs.Framing.{parseHeader, validHeader, audioStart, audioSendTime};
-ghost use Rattle.udp_framing.specs.Views.{headerOf, headerFound, sendTimeFound};
+ghost use Rattle.model.specs.Framing.{parseHeader, validHeader, audioStart, audioSendTime, parseRequest, parseResponse};
+ghost use Rattle.udp_framing.specs.Views.{headerOf, headerFound, sendTimeFound, orRefusal, requestAnswer, responseAnswer};
 use big_endian::read_u8;
 use big_endian::read_u16;
 use big_endian::read_u32;
@@ -116,4 +116,65 @@ pub fn audio_send_wall_ns(header: MediaHeader, packet: &[u8]) -> SendWall
         return SendWall::Absent;
     }
     SendWall::Ns(read_u64(packet, HEADER_LEN))
+}
+
+pub enum TimeSyncRequest {
+    Numbers { probe_id: u32, t1_ns: u64 },
+    // Refusal 10: another type, or under 24 bytes.
+    Refused,
+}
+
+// The numbers of a time-sync request. Its magic and version are not judged.
+pub fn parse_time_sync_request(packet: &[u8]) -> TimeSyncRequest
+    ensures { λ r. ⌜ requestAnswer r ≡ orRefusal 10 (parseRequest (now (packet .entry))) ⌝ }
+{
+    let ParsedHeader::Header(header) = parse_media_header(packet) else {
+        return TimeSyncRequest::Refused;
+    };
+    if header.stream_type != STREAM_TYPE_TIME_SYNC_REQUEST {
+        return TimeSyncRequest::Refused;
+    }
+    if packet.len() < HEADER_LEN + 8 {
+        return TimeSyncRequest::Refused;
+    }
+    let t1_ns = read_u64(packet, 16);
+    TimeSyncRequest::Numbers {
+        probe_id: header.sequence,
+        t1_ns,
+    }
+}
+
+pub enum TimeSyncResponse {
+    Numbers {
+        probe_id: u32,
+        t1_ns: u64,
+        t2_ns: u64,
+        t3_ns: u64,
+    },
+    // Refusal 10: another type, or under 40 bytes.
+    Refused,
+}
+
+// The numbers of a time-sync response. Its magic and version are not judged.
+pub fn parse_time_sync_response(packet: &[u8]) -> TimeSyncResponse
+    ensures { λ r. ⌜ responseAnswer r ≡ orRefusal 10 (parseResponse (now (packet .entry))) ⌝ }
+{
+    let ParsedHeader::Header(header) = parse_media_header(packet) else {
+        return TimeSyncResponse::Refused;
+    };
+    if header.stream_type != STREAM_TYPE_TIME_SYNC_RESPONSE {
+        return TimeSyncResponse::Refused;
+    }
+    if packet.len() < HEADER_LEN + 24 {
+        return TimeSyncResponse::Refused;
+    }
+    let t1_ns = read_u64(packet, 16);
+    let t2_ns = read_u64(packet, 24);
+    let t3_ns = read_u64(packet, 32);
+    TimeSyncResponse::Numbers {
+        probe_id: header.sequence,
+        t1_ns,
+        t2_ns,
+        t3_ns,
+    }
 }
