@@ -1,13 +1,17 @@
 -- Bytes in two parts: a number is its high part and its low part, and what is written in two runs is written in one. Assumes nothing.
-use Prim.Native.Nat.{ℕ, _+_, _*_, _^_, _≤_, _<_}
-use mathlib.Core.Path.{_≡_, sym}
-use mathlib.Core.List.{List, [], _∷_, _++_}
+use Prim.Native.Nat.{ℕ, zero, suc, _+_, _*_, _/_, _%_, _^_, _≤_, _<_}
+use mathlib.Core.Path.{_≡_, refl, sym, ap, _∙_}
+use mathlib.Core.List.{List, [], _∷_, _++_, append-assoc}
 use native.Mathlib.Omega.{arith}
-use native.Mathlib.Nat.{mul-assoc, add-assoc, add-mul}
+use native.Mathlib.Nat.{mul-assoc, add-assoc, add-mul, suc-add, zero-add, div-add-mod', div-div-eq-div-mul, mul-comm}
+use native.Mathlib.Numerals.{add-one}
 use lib.Pow.{pow-add}
-use lib.ListN.{length, drop, getD, length-append, length-take, length-drop}
-use lib.Seq.{take-add, drop-drop, drop-cons}
-use Rattle.model.specs.Bytes.{bigEndian, bigEndianAt, part}
+use lib.ListN.{length, take, drop, getD, set, length-append, length-take, length-drop}
+use lib.Seq.{take-add, drop-drop, drop-cons, take-at, drop-at, set-split}
+use Rattle.model.specs.Bytes.{bigEndian, bigEndianBytes, bigEndianAt, part, placed}
+use Rattle.model.proofs.BytesLaws.{length-big-endian-bytes, big-endian-bytes-low}
+
+-- ---- numbers that are read
 
 pub big-endian-append : (xs ys : List ℕ) → bigEndian (xs ++ ys) ≡ bigEndian xs * 256 ^ length ys + bigEndian ys
 unfolding bigEndian
@@ -31,3 +35,45 @@ number-of-halves k at xs fits h l = rw (h, l) (sym (big-endian-at-halves at k k 
 pub big-endian-at-one : (at : ℕ) (xs : List ℕ) → at < length xs → bigEndianAt at 1 xs ≡ getD xs at 0
 unfolding bigEndian
 big-endian-at-one at xs inside = rw (drop-cons xs at 0 inside) (omega arith)
+
+-- ---- bytes that are written
+
+-- what is written behind what was written before is written with it
+pub placed-behind : (at : ℕ) (xs ys zs : List ℕ) → at + (length xs + length ys) ≤ length zs
+    → placed (at + length xs) ys (placed at xs zs) ≡ placed at (xs ++ ys) zs
+unfolding placed
+placed-behind at xs ys zs fits =
+    let rest = drop (at + length xs) zs in
+    let front : length (take at zs ++ xs) ≡ at + length xs = simp (length-append, length-take) (omega arith) in
+    let behind : drop (at + length xs + length ys) ((take at zs ++ xs) ++ rest) ≡ drop (at + length (xs ++ ys)) zs =
+    rw (← drop-drop (length ys) (at + length xs) ((take at zs ++ xs) ++ rest), drop-at (take at zs ++ xs) rest (at + length xs) front, drop-drop, length-append, add-assoc)
+    in
+    rw (← append-assoc (take at zs) xs rest, take-at (take at zs ++ xs) rest (at + length xs) front, behind)
+    (simp append-assoc)
+
+-- the bytes of a number are those of its high part and of its low part
+pub bytes-of-parts : (j k n : ℕ) → bigEndianBytes (j + k) n ≡ bigEndianBytes j (n / 256 ^ k) ++ bigEndianBytes k (n % 256 ^ k)
+unfolding bigEndianBytes
+bytes-of-parts zero k n =
+    rw (zero-add k) (ap (bigEndianBytes k) (sym (div-add-mod' n (256 ^ k))) ∙ big-endian-bytes-low k (n / 256 ^ k) (n % 256 ^ k))
+bytes-of-parts (suc j) k n =
+    rw (suc-add j k, bytes-of-parts j k n, div-div-eq-div-mul, mul-comm (256 ^ k) (256 ^ j), ← pow-add 256 j k)
+
+-- the bytes of a number are written half after half
+pub halves-placed : (k at n : ℕ) (zs : List ℕ) {between last : List ℕ} → at + (k + k) ≤ length zs
+    → between ≡ placed at (bigEndianBytes k (n / 256 ^ k)) zs
+    → last ≡ placed (at + k) (bigEndianBytes k (n % 256 ^ k)) between
+    → last ≡ placed at (bigEndianBytes (k + k) n) zs
+halves-placed k at n zs fits first second =
+    let high = bigEndianBytes k (n / 256 ^ k) in
+    let low = bigEndianBytes k (n % 256 ^ k) in
+    let long : length high ≡ k = length-big-endian-bytes k (n / 256 ^ k) in
+    let same = placed-behind at high low zs (rw (long, length-big-endian-bytes k (n % 256 ^ k)) fits) in
+    rw (second, first, bytes-of-parts k k n) (rw long at same)
+
+-- one byte is written as a number of one byte
+pub byte-placed : (at n : ℕ) (zs : List ℕ) → at < length zs → n < 256 → set zs at n ≡ placed at (bigEndianBytes 1 n) zs
+unfolding placed bigEndianBytes
+byte-placed at n zs inside byte =
+    let same : n / 1 % 256 ≡ n = omega arith in
+    rw (same, set-split zs at n inside, add-one at)
