@@ -77,3 +77,27 @@ unfolding placed bigEndianBytes
 byte-placed at n zs inside byte =
     let same : n / 1 % 256 ≡ n = omega arith in
     rw (same, set-split zs at n inside, add-one at)
+
+-- ---- numbers written one behind the other, from the front of a target on
+
+-- the first bytes of a target are written: they are xs, and the next number comes at the place behind them
+pub record Front (xs target now : List ℕ) (at : ℕ) : Type 0 where
+  pub place : length xs ≡ at
+  pub bytes : now ≡ placed 0 xs target
+
+pub number-first : (k n : ℕ) {target now : List ℕ} → now ≡ placed 0 (bigEndianBytes k n) target → Front (bigEndianBytes k n) target now k
+number-first k n e = record { place = length-big-endian-bytes k n; bytes = e }
+
+pub number-next : (k n : ℕ) {at : ℕ} {xs target now next : List ℕ} → Front xs target now at → at + k ≤ length target
+    → next ≡ placed at (bigEndianBytes k n) now → Front (xs ++ bigEndianBytes k n) target next (at + k)
+number-next k n {at} {xs} {target} {now} {next} front fits e =
+    record { place = rw (length-append, size, place) refl; bytes = rw (e, front .bytes, ← place, ← zero-add (length xs)) together }
+  where
+    place : length xs ≡ at
+    place = front .place
+
+    size : length (bigEndianBytes k n) ≡ k
+    size = length-big-endian-bytes k n
+
+    together : placed (0 + length xs) (bigEndianBytes k n) (placed 0 xs target) ≡ placed 0 (xs ++ bigEndianBytes k n) target
+    together = placed-behind 0 xs (bigEndianBytes k n) target (omega (arith, size))

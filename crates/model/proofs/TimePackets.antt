@@ -6,10 +6,10 @@ use mathlib.Core.Bool.{Bool, true, false, _&&_, cond}
 use mathlib.Core.Option.{none, some}
 use mathlib.Core.List.{List}
 use lib.ListN.{length}
-use Rattle.model.specs.Bytes.{bigEndianAt}
+use Rattle.model.specs.Bytes.{bigEndianAt, bigEndianBytes}
 use lib.Dec.{leb, ltb}
 use borrow.Author.Tests.{ltb-true, le-leb, lt-leb, eq-eqb, ne-eqb}
-use Rattle.model.specs.Framing.{Header, headerLength, headerFields, parseHeader, requestType, responseType, timePacket, parseRequest, parseResponse}
+use Rattle.model.specs.Framing.{Header, headerLength, headerFields, parseHeader, TimeRequest, TimeResponse, requestType, responseType, timeHeader, buildRequest, buildResponse, timePacket, parseRequest, parseResponse}
 use Rattle.model.proofs.BoolLaws.{by-test, clash, both-and}
 
 -- a header that parses is the datagram's fields
@@ -68,3 +68,13 @@ module _ (bytes : List ℕ) {h : Header} (found : some h ≡ parseHeader bytes) 
   unfolding parseResponse
   parsed-response same long e1 e2 e3 =
       rw (time-packet-found responseType 40 bytes found same long, header-found bytes found, e1, e2, e3)
+
+-- ---- sizes of what is built
+
+pub request-length : (r : TimeRequest) → length (buildRequest r) ≡ 24
+unfolding buildRequest timeHeader bigEndianBytes
+request-length r = refl
+
+pub response-length : (r : TimeResponse) → length (buildResponse r) ≡ 40
+unfolding buildResponse timeHeader bigEndianBytes
+response-length r = refl

@@ -3,12 +3,19 @@
 mod big_endian;
 
 ghost use mathlib.Core.Path.{_≡_};
-ghost use Rattle.model.specs.Framing.{parseHeader, validHeader, audioStart, audioSendTime, parseRequest, parseResponse};
-ghost use Rattle.udp_framing.specs.Views.{headerOf, headerFound, sendTimeFound, orRefusal, requestAnswer, responseAnswer};
+ghost use Prim.Native.Nat.{_≤_};
+ghost use lib.ListN.{length};
+ghost use Rattle.model.specs.Bytes.{placed};
+ghost use Rattle.model.specs.Framing.{parseHeader, validHeader, audioStart, audioSendTime, buildRequest, buildResponse, parseRequest, parseResponse};
+ghost use Rattle.udp_framing.specs.Views.{headerOf, headerFound, sendTimeFound, orRefusal, requestAnswer, responseAnswer, headerBytes, BuiltAs};
 use big_endian::read_u8;
 use big_endian::read_u16;
 use big_endian::read_u32;
 use big_endian::read_u64;
+use big_endian::write_u8;
+use big_endian::write_u16;
+use big_endian::write_u32;
+use big_endian::write_u64;
 
 // "RS", at the front of each datagram.
 pub const MAGIC: u16 = 0x5253;
@@ -118,6 +125,37 @@ pub fn audio_send_wall_ns(header: MediaHeader, packet: &[u8]) -> SendWall
     SendWall::Ns(read_u64(packet, HEADER_LEN))
 }
 
+// Writes a header of the version that is built at the front of the target.
+fn push_header(target: &mut [u8], stream_type: u8, sequence: u32, timestamp: u64)
+    requires { ⌜ 16 ≤ length (now target) ⌝ }
+    ensures { λ _. ⌜ now (target .exit) ≡ placed 0 (headerBytes «stream_type» sequence timestamp) (now (target .entry)) ⌝ }
+{
+    write_u16(target, 0, MAGIC);
+    write_u8(target, 2, VERSION);
+    write_u8(target, 3, stream_type);
+    write_u32(target, 4, sequence);
+    write_u64(target, 8, timestamp);
+}
+
+pub enum Built {
+    // The number of bytes, at the front of the target.
+    Written(usize),
+    // Refusal 2: the target is too short, and nothing was written.
+    Refused,
+}
+
+// Builds a time-sync request of 24 bytes, which carries the client's send time.
+pub fn build_time_sync_request(target: &mut [u8], probe_id: u32, t1_ns: u64) -> Built
+    ensures { λ r. ⌜ BuiltAs (buildRequest (record { probe = «probe_id»; t1 = «t1_ns» })) (now (target .entry)) (now (target .exit)) r ⌝ }
+{
+    if target.len() < HEADER_LEN + 8 {
+        return Built::Refused;
+    }
+    push_header(target, STREAM_TYPE_TIME_SYNC_REQUEST, probe_id, 0);
+    write_u64(target, 16, t1_ns);
+    Built::Written(24)
+}
+
 pub enum TimeSyncRequest {
     Numbers { probe_id: u32, t1_ns: u64 },
     // Refusal 10: another type, or under 24 bytes.
@@ -142,6 +180,26 @@ pub fn parse_time_sync_request(packet: &[u8]) -> TimeSyncRequest
         probe_id: header.sequence,
         t1_ns,
     }
+}
+
+// Builds a time-sync response of 40 bytes, which has the request's t1 again and the server's receive and send times.
+pub fn build_time_sync_response(
+    target: &mut [u8],
+    probe_id: u32,
+    t1_ns: u64,
+    t2_ns: u64,
+    t3_ns: u64,
+) -> Built
+    ensures { λ r. ⌜ BuiltAs (buildResponse (record { probe = «probe_id»; t1 = «t1_ns»; t2 = «t2_ns»; t3 = «t3_ns» })) (now (target .entry)) (now (target .exit)) r ⌝ }
+{
+    if target.len() < HEADER_LEN + 24 {
+        return Built::Refused;
+    }
+    push_header(target, STREAM_TYPE_TIME_SYNC_RESPONSE, probe_id, 0);
+    write_u64(target, 16, t1_ns);
+    write_u64(target, 24, t2_ns);
+    write_u64(target, 32, t3_ns);
+    Built::Written(40)
 }
 
 pub enum TimeSyncResponse {
