@@ -1,15 +1,16 @@
 -- Time-sync packets: what the tests of a packet come to once its header is parsed. Assumes nothing.
-use Prim.Native.Nat.{ℕ, _≤_, _<_}
+use Prim.Native.Nat.{ℕ, _^_, _≤_, _<_}
 use native.Mathlib.Omega.{arith}
 use mathlib.Core.Path.{_≡_, refl, sym, ap, _∙_}
 use mathlib.Core.Bool.{Bool, true, false, _&&_, cond}
 use mathlib.Core.Option.{none, some}
-use mathlib.Core.List.{List}
-use lib.ListN.{length}
-use Rattle.model.specs.Bytes.{bigEndianAt, bigEndianBytes}
+use mathlib.Core.List.{List, [], _++_, append-nil}
+use lib.ListN.{length, length-append}
+use Rattle.model.specs.Bytes.{bigEndian, bigEndianAt, bigEndianBytes}
 use lib.Dec.{leb, ltb}
 use borrow.Author.Tests.{ltb-true, le-leb, lt-leb, eq-eqb, ne-eqb}
 use Rattle.model.specs.Framing.{Header, headerLength, headerFields, parseHeader, TimeRequest, TimeResponse, requestType, responseType, timeHeader, buildRequest, buildResponse, timePacket, parseRequest, parseResponse}
+use Rattle.model.proofs.BytesLaws.{number-of-bytes}
 use Rattle.model.proofs.BoolLaws.{by-test, clash, both-and}
 
 -- a header that parses is the datagram's fields
@@ -78,3 +79,68 @@ request-length r = refl
 pub response-length : (r : TimeResponse) → length (buildResponse r) ≡ 40
 unfolding buildResponse timeHeader bigEndianBytes
 response-length r = refl
+
+-- ---- what is built parses to what it was built from, also where more bytes follow
+
+-- the sum of what is built and what follows is at least the size of what is built
+long-enough : (size : ℕ) (packet rest : List ℕ) → length packet ≡ size → leb size (length (packet ++ rest)) ≡ true
+long-enough size packet rest e = le-leb size (length (packet ++ rest)) (omega (arith, length-append packet rest))
+
+module _ (r : TimeRequest) (rest : List ℕ) where
+  request-type-at : headerFields (buildRequest r ++ rest) .streamType ≡ requestType
+  unfolding headerFields buildRequest timeHeader bigEndianBytes bigEndian
+  request-type-at = refl
+
+  request-probe-at : r .probe < 2 ^ 32 → headerFields (buildRequest r ++ rest) .sequence ≡ r .probe
+  unfolding headerFields buildRequest timeHeader bigEndianBytes
+  request-probe-at h = number-of-bytes 4 (r .probe) h
+
+  request-t1-at : r .t1 < 2 ^ 64 → bigEndianAt 16 8 (buildRequest r ++ rest) ≡ r .t1
+  unfolding buildRequest timeHeader bigEndianBytes
+  request-t1-at h = number-of-bytes 8 (r .t1) h
+
+  built-is-request : timePacket requestType 24 (buildRequest r ++ rest) ≡ true
+  unfolding timePacket
+  built-is-request = rw (long-enough 24 (buildRequest r) rest (request-length r), request-type-at)
+
+  pub parse-built-request-and-more : r .probe < 2 ^ 32 → r .t1 < 2 ^ 64 → parseRequest (buildRequest r ++ rest) ≡ some r
+  unfolding parseRequest
+  parse-built-request-and-more p h1 = rw (built-is-request, request-probe-at p, request-t1-at h1)
+
+module _ (r : TimeResponse) (rest : List ℕ) where
+  response-type-at : headerFields (buildResponse r ++ rest) .streamType ≡ responseType
+  unfolding headerFields buildResponse timeHeader bigEndianBytes bigEndian
+  response-type-at = refl
+
+  response-probe-at : r .probe < 2 ^ 32 → headerFields (buildResponse r ++ rest) .sequence ≡ r .probe
+  unfolding headerFields buildResponse timeHeader bigEndianBytes
+  response-probe-at h = number-of-bytes 4 (r .probe) h
+
+  response-t1-at : r .t1 < 2 ^ 64 → bigEndianAt 16 8 (buildResponse r ++ rest) ≡ r .t1
+  unfolding buildResponse timeHeader bigEndianBytes
+  response-t1-at h = number-of-bytes 8 (r .t1) h
+
+  response-t2-at : r .t2 < 2 ^ 64 → bigEndianAt 24 8 (buildResponse r ++ rest) ≡ r .t2
+  unfolding buildResponse timeHeader bigEndianBytes
+  response-t2-at h = number-of-bytes 8 (r .t2) h
+
+  response-t3-at : r .t3 < 2 ^ 64 → bigEndianAt 32 8 (buildResponse r ++ rest) ≡ r .t3
+  unfolding buildResponse timeHeader bigEndianBytes
+  response-t3-at h = number-of-bytes 8 (r .t3) h
+
+  built-is-response : timePacket responseType 40 (buildResponse r ++ rest) ≡ true
+  unfolding timePacket
+  built-is-response = rw (long-enough 40 (buildResponse r) rest (response-length r), response-type-at)
+
+  pub parse-built-response-and-more : r .probe < 2 ^ 32 → r .t1 < 2 ^ 64 → r .t2 < 2 ^ 64 → r .t3 < 2 ^ 64
+      → parseResponse (buildResponse r ++ rest) ≡ some r
+  unfolding parseResponse
+  parse-built-response-and-more p h1 h2 h3 =
+      rw (built-is-response, response-probe-at p, response-t1-at h1, response-t2-at h2, response-t3-at h3)
+
+pub parse-built-request : (r : TimeRequest) → r .probe < 2 ^ 32 → r .t1 < 2 ^ 64 → parseRequest (buildRequest r) ≡ some r
+parse-built-request r p h1 = rw append-nil at (parse-built-request-and-more r [] p h1)
+
+pub parse-built-response : (r : TimeResponse) → r .probe < 2 ^ 32 → r .t1 < 2 ^ 64 → r .t2 < 2 ^ 64 → r .t3 < 2 ^ 64
+    → parseResponse (buildResponse r) ≡ some r
+parse-built-response r p h1 h2 h3 = rw append-nil at (parse-built-response-and-more r [] p h1 h2 h3)
