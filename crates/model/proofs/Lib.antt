@@ -4,6 +4,7 @@ pub mod ListLaws
 pub mod BytesLaws
 pub mod ByteParts
 pub mod TimePackets
+pub mod ProbeWords
 pub mod FieldRange
 pub mod SizeLaws
 pub mod Waiting

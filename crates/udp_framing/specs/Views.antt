@@ -1,9 +1,10 @@
 -- What the crate's values stand for: the model's header, times and time packets, and the numbers of the refusals. Assumes nothing.
-use Prim.Native.Nat.{ℕ}
+use Prim.Native.Nat.{ℕ, _+_, _*_, _^_, _≤_}
 use mathlib.Core.Path.{_≡_}
 use mathlib.Core.List.{List, _∷_, _++_}
 use lib.ListN.{length}
 use Rattle.model.specs.Bytes.{bigEndianBytes, writtenInto}
+use Rattle.model.specs.Clock.{probeOffset, probeRoundTrip}
 use mathlib.Core.Option.{Option, none, some}
 use Rattle.model.specs.Framing.{Header, magicNumber, TimeRequest, TimeResponse}
 use Rattle.udp_framing.specs.declared.MediaHeader.{MediaHeader}
@@ -11,6 +12,9 @@ use Rattle.udp_framing.specs.declared.ParsedHeader.{ParsedHeader}
 use Rattle.udp_framing.specs.declared.ParsedHeader.the-variants as Parsed
 use Rattle.udp_framing.specs.declared.SendWall.{SendWall}
 use Rattle.udp_framing.specs.declared.SendWall.the-variants as Wall
+use Rattle.udp_framing.specs.declared.OffsetRtt.{OffsetRtt}
+use Rattle.udp_framing.specs.declared.words.Sum.{Sum}
+use Rattle.udp_framing.specs.declared.words.Difference.{Difference}
 use Rattle.udp_framing.specs.declared.Built.{Built}
 use Rattle.udp_framing.specs.declared.Built.the-variants as Build
 use Rattle.udp_framing.specs.declared.TimeSyncRequest.{TimeSyncRequest}
@@ -86,3 +90,22 @@ orUnchanged entry (some bytes) = bytes
 pub record BuiltAs (packet entry exit : List ℕ) (answer : Built) : Type 0 where
   pub answered : builtAnswer answer ≡ sizeOrRefusal (length packet) (writtenInto 0 packet entry)
   pub bytes : exit ≡ orUnchanged entry (writtenInto 0 packet entry)
+
+-- ---- the clock
+
+-- the number that a carry and a low word are
+abbrev pub sumOf : Sum → ℕ
+sumOf s = s .carry * 2 ^ 64 + s .low
+
+pub record Added (a b : ℕ) (r : Sum) : Type 0 where
+  pub one : r .carry ≤ 1
+  pub whole : sumOf r ≡ a + b
+
+pub record Subtracted (a b : ℕ) (r : Difference) : Type 0 where
+  pub one : r .borrow ≤ 1
+  pub whole : a + r .borrow * 2 ^ 64 ≡ b + r .low
+
+-- what the four times of a probe come to
+pub record Measured (t1 t2 t3 t4 : ℕ) (r : OffsetRtt) : Type 0 where
+  pub offset : r .offset ≡ probeOffset t1 t2 t3 t4
+  pub rtt : r .rtt ≡ probeRoundTrip t1 t2 t3 t4

@@ -1,13 +1,14 @@
 // Framing of datagrams: the media header, the send time of an audio datagram, and the time-sync packets. All numbers
 // are big-endian.
 mod big_endian;
+mod words;
 
 ghost use mathlib.Core.Path.{_≡_};
 ghost use Prim.Native.Nat.{_≤_};
 ghost use lib.ListN.{length};
 ghost use Rattle.model.specs.Bytes.{placed};
 ghost use Rattle.model.specs.Framing.{parseHeader, validHeader, audioStart, audioSendTime, buildRequest, buildResponse, parseRequest, parseResponse};
-ghost use Rattle.udp_framing.specs.Views.{headerOf, headerFound, sendTimeFound, orRefusal, requestAnswer, responseAnswer, headerBytes, BuiltAs};
+ghost use Rattle.udp_framing.specs.Views.{headerOf, headerFound, sendTimeFound, orRefusal, requestAnswer, responseAnswer, headerBytes, BuiltAs, Measured};
 use big_endian::read_u8;
 use big_endian::read_u16;
 use big_endian::read_u32;
@@ -16,6 +17,10 @@ use big_endian::write_u8;
 use big_endian::write_u16;
 use big_endian::write_u32;
 use big_endian::write_u64;
+use std::num::wrapping_sub_u64;
+use words::add_with_carry;
+use words::as_signed;
+use words::half_difference;
 
 // "RS", at the front of each datagram.
 pub const MAGIC: u16 = 0x5253;
@@ -234,5 +239,26 @@ pub fn parse_time_sync_response(packet: &[u8]) -> TimeSyncResponse
         t1_ns,
         t2_ns,
         t3_ns,
+    }
+}
+
+// Nanoseconds: the server's clock less the client's, and the network's share of a probe's time.
+pub struct OffsetRtt {
+    pub offset: i64,
+    pub rtt: i64,
+}
+
+// From a probe's four times, client send, server receive, server send and client receive: ((t2 - t1) + (t3 - t4)) / 2
+// toward zero and (t4 - t1) - (t3 - t2), the low 64 bits of each.
+pub fn clock_offset_rtt(t1: u64, t2: u64, t3: u64, t4: u64) -> OffsetRtt
+    ensures { λ r. ⌜ Measured t1 t2 t3 t4 r ⌝ }
+{
+    let offset = half_difference(add_with_carry(t2, t3), add_with_carry(t1, t4));
+    let away = wrapping_sub_u64(t4, t1);
+    let served = wrapping_sub_u64(t3, t2);
+    let rtt = wrapping_sub_u64(away, served);
+    OffsetRtt {
+        offset: as_signed(offset),
+        rtt: as_signed(rtt),
     }
 }
