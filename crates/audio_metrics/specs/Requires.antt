@@ -29,3 +29,12 @@ pub record ProbeFits (t : Option Timing) (offset : ℤ) (roundTrip : ℕ) : Type
 pub record Probed (k : Clock) (offset roundTrip : ℤ) : Type 0 where
   pub held : clockHeld k ≡ true
   pub allowed : probeAllowed offset roundTrip ≡ true
+
+-- a delay and the last one, each absent or small enough for a step
+abbrev pub DelayFits : Option ℤ → Type 0
+DelayFits none = Unit {0}
+DelayFits (some n) = mag n < 2 ^ 62
+
+pub record OneWayFits (old : Option ℤ) (new : ℤ) : Type 0 where
+  pub old-fits : DelayFits old
+  pub new-fits : mag new < 2 ^ 62

@@ -22,9 +22,9 @@ abbrev pub timingOf : Timing → Option Clock.Timing
 timingOf Timing.Unknown = none
 timingOf (Timing.Known t) = some (knownOf t)
 
-abbrev pub oneWayOf : OneWay → Option ℤ
-oneWayOf OneWay.Unknown = none
-oneWayOf (OneWay.Known n) = some n
+abbrev pub delayOf : OneWay → Option ℤ
+delayOf OneWay.Unknown = none
+delayOf (OneWay.Known n) = some n
 
 abbrev pub depthKnown : JitterDepth → Clock.Depth
 depthKnown d = record { average = d .«jitter_avg_ms»; peak = d .«jitter_peak_ms» }
@@ -42,7 +42,7 @@ abbrev pub clockOf : AudioMetrics → Clock.Clock
 clockOf m =
     record {
       timing = timingOf (m .timing);
-      oneWay = oneWayOf (m .«one_way»);
+      oneWay = delayOf (m .«one_way»);
       depth = depthOf (m .jitter);
       counts = record { conceals = m .conceals; late = m .late; overflow = m .overflow; resyncs = m .resyncs };
       transmitPeak = m .«tx_ring_peak_ms»;

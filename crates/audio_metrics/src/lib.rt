@@ -3,10 +3,16 @@
 // The functions take what the receiver's questions let through: a held clock, and numbers in the range of question 9.
 ghost use mathlib.Core.Path.{_≡_};
 ghost use Prim.Native.Nat.{_<_, _≤_, _^_};
+ghost use mathlib.Core.Bool.{true};
+ghost use mathlib.Core.Option.{some};
 ghost use lib.IntN.{natAbs};
-ghost use Rattle.model.specs.Clock.{stepToward, leastAfter, passesGate, timingAfter, recordProbe, samplesMs, depthAfter, recordDepth, recordTransmit, inMs, oneWayMs, roundTripMs, offsetMs, depthMs, depthPeakMs};
-ghost use Rattle.audio_metrics.specs.Requires.{StepFits, ProbeFits, Probed};
-ghost use Rattle.audio_metrics.specs.Views.{timingOf, knownOf, depthKnown, depthOf, readingOf, clockOf};
+ghost use Rattle.model.specs.Receiver.{clockHeld};
+ghost use Rattle.model.specs.Clock.{stepToward, leastAfter, passesGate, timingAfter, recordProbe, bits64, oneWayOf, oneWayAfter, recordOneWay, samplesMs, depthAfter, recordDepth, recordTransmit, inMs, oneWayMs, roundTripMs, offsetMs, depthMs, depthPeakMs};
+ghost use Rattle.audio_metrics.specs.Requires.{StepFits, ProbeFits, Probed, OneWayFits};
+ghost use Rattle.audio_metrics.specs.Views.{timingOf, knownOf, delayOf, depthKnown, depthOf, readingOf, clockOf};
+use std::num::wrapping_add_u64;
+use std::num::wrapping_sub_u64;
+use udp_framing::words::as_signed;
 
 // Server − client clock offset, the last round trip, and the running least that gates clean offsets.
 pub struct ClockTiming {
@@ -100,6 +106,35 @@ fn timing_after(timing: Timing, offset: i64, rtt: u64) -> ClockTiming
     }
 }
 
+// The one-way delay that the two times and the offset give: the low 64 bits of receive − send + offset.
+fn one_way_of(recv: u64, send: u64, offset: i64) -> i64
+    ensures { λ r. ⌜ r ≡ oneWayOf recv send offset ⌝ }
+{
+    let delay = wrapping_sub_u64(recv, send);
+    as_signed(wrapping_add_u64(delay, as_bits(offset)))
+}
+
+// The bits of a signed number.
+fn as_bits(n: i64) -> u64
+    ensures { λ r. ⌜ r ≡ bits64 n ⌝ }
+{
+    if n >= 0 {
+        return n as u64;
+    }
+    u64::MAX - ((-1 - n) as u64)
+}
+
+// The one-way delay after a new one: the first is taken whole, then an eighth step.
+fn one_way_after(old: OneWay, new: i64) -> i64
+    requires { ⌜ OneWayFits (delayOf old) new ⌝ }
+    ensures { λ r. ⌜ some r ≡ oneWayAfter new (delayOf old) ⌝ }
+{
+    let OneWay::Known(known) = old else {
+        return new;
+    };
+    step_toward(8, known, new)
+}
+
 // A number of samples in ms, at 48,000 a second.
 fn samples_ms(samples: usize) -> f32
     requires { ⌜ samples ≤ 16777216 ⌝ }
@@ -155,6 +190,37 @@ impl AudioMetrics {
         AudioMetrics {
             timing: Timing::Known(next),
             one_way,
+            jitter,
+            conceals: self.conceals,
+            late: self.late,
+            overflow: self.overflow,
+            resyncs: self.resyncs,
+            tx_ring_peak_ms: self.tx_ring_peak_ms,
+        }
+    }
+
+    // Feeds one audio packet's two times. Nothing is known before an offset, and absurd delays are ignored.
+    pub fn record_audio_one_way(self, recv_ns: u64, send_ns: u64) -> AudioMetrics
+        requires { ⌜ clockHeld (clockOf self) ≡ true ⌝ }
+        ensures { λ r. ⌜ clockOf r ≡ recordOneWay «recv_ns» «send_ns» (clockOf self) ⌝ }
+    {
+        let timing = self.timing;
+        let one_way = self.one_way;
+        let jitter = self.jitter;
+        let Timing::Known(t) = timing else {
+            return self;
+        };
+        let new = one_way_of(recv_ns, send_ns, t.offset_ns);
+        if new < -1_000_000_000 {
+            return self;
+        }
+        if 5_000_000_000 < new {
+            return self;
+        }
+        let next = one_way_after(one_way, new);
+        AudioMetrics {
+            timing,
+            one_way: OneWay::Known(next),
             jitter,
             conceals: self.conceals,
             late: self.late,

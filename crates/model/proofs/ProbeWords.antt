@@ -45,7 +45,7 @@ word-after-cancel x y b e = sym (back x) ∙ ap (λ (n : ℕ). (n + b * 18446744
 one-word : (x : ℕ) → 0 < x → x < 2 ^ 65 → x % 2 ^ 64 ≡ 0 → x ≡ 2 ^ 64
 one-word x h k e = omega arith
 
-bits-of-difference : (a b r : ℕ) → r < 2 ^ 64 → (r + b) % 2 ^ 64 ≡ a % 2 ^ 64 → bits64 (pos a -ℤ pos b) ≡ r
+pub bits-of-difference : (a b r : ℕ) → r < 2 ^ 64 → (r + b) % 2 ^ 64 ≡ a % 2 ^ 64 → bits64 (pos a -ℤ pos b) ≡ r
 unfolding bits64
 bits-of-difference a b r h e = by-test (ltb a b) (λ t. down (ltb-true a b t)) (λ t. up (ltb-false a b t))
   where

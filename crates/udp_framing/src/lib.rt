@@ -1,7 +1,7 @@
 // Framing of datagrams: the media header, the send time of an audio datagram, and the time-sync packets. All numbers
 // are big-endian.
 mod big_endian;
-mod words;
+pub mod words;
 
 ghost use mathlib.Core.Path.{_≡_};
 ghost use Prim.Native.Nat.{_≤_};

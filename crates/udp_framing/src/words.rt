@@ -57,7 +57,7 @@ pub(crate) fn half_difference(a: Sum, b: Sum) -> u64
 }
 
 // The signed number that the bits are.
-pub(crate) fn as_signed(bits: u64) -> i64
+pub fn as_signed(bits: u64) -> i64
     ensures { λ r. ⌜ r ≡ signed64 bits ⌝ }
 {
     if bits < 0x8000_0000_0000_0000 {
