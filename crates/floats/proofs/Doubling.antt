@@ -2,12 +2,12 @@
 use mathlib.Core.Path.{_≡_, sym, ap, _∙_, subst}
 use mathlib.Core.Bool.{Bool, false, _&&_}
 use Prim.Native.Nat.{ℕ, suc, _+_, _-_, _*_, _%_, _^_, _≤_, _<_}
-use native.Mathlib.Nat.{le-trans, le-of-eq, lt-of-lt-of-le, lt-of-le-of-lt, lt-irrefl, lt-of-not-le, le-of-suc-le-suc, mul-one, mul-comm, mul-assoc, mul-left-comm, mul-pos, mul-lt-mul-of-pos-right, lt-of-mul-lt-mul-right, two-mul, pow-succ'}
+use native.Mathlib.Nat.{le-of-eq, lt-of-lt-of-le, lt-of-le-of-lt, lt-irrefl, lt-of-not-le, le-of-suc-le-suc, mul-one, mul-comm, mul-assoc, mul-left-comm, mul-pos, mul-lt-mul-of-pos-right, lt-of-mul-lt-mul-right, two-mul, pow-succ'}
 use native.Mathlib.Omega.{arith}
 use lib.IntN.{ℤ, pos, negsuc}
 use lib.Dec.{T, leb, ltb, eqb, leb→le, ltb→lt}
 use lib.Pow.{pow-add, pow-pos, pow-lt}
-use lib.Ieee.{Float, fin, Format, prec, emax, low, up, down, round, add, sum, fits}
+use lib.Ieee.{Float, fin, Format, prec, emax, low, up, down, add, sum, fits}
 use lib.Ieee.Fits.{and-l, and-r, down-pos}
 use lib.Ieee.Exact.{HasValue, round-exact}
 use lib.Ieee.Scale.{round-same}

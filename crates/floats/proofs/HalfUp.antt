@@ -2,11 +2,10 @@
 use mathlib.Core.Path.{_≡_, refl, sym, ap, _∙_, subst}
 use mathlib.Core.Bool.{true, false}
 use Prim.Native.Nat.{ℕ, zero, suc, _+_, _*_, _/_, _^_, _≤_, _<_}
-use native.Mathlib.Nat.{lt-irrefl, le-trans, le-of-eq, lt-of-lt-of-le, zero-mul, one-mul, mul-one, mul-comm, mul-assoc, mul-le-mul-right, mul-lt-mul-of-pos-left, add-div-right, div-div-eq-div-mul, div-lt-iff-lt-mul}
-use native.Mathlib.Omega.{arith}
+use native.Mathlib.Nat.{lt-irrefl, lt-of-lt-of-le, zero-mul, one-mul, mul-one, mul-comm, mul-assoc, mul-le-mul-right, mul-lt-mul-of-pos-left, add-div-right, div-div-eq-div-mul, div-lt-iff-lt-mul}
 use lib.IntN.{ℤ, pos}
 use lib.Dec.{T, ltb→lt, lit≤}
-use lib.Ieee.{Float, nan, inf, fin, binary32, up, down, round, add, lt, fits, ofInt, toUnsigned}
+use lib.Ieee.{Float, nan, inf, fin, binary32, up, down, add, lt, fits, ofInt, toUnsigned}
 use lib.Ieee.Fits.{down-pos}
 use lib.Ieee.Exact.{HasValue}
 use Rattle.model.specs.Floats.{f0, roundHalfAway}

@@ -1,13 +1,11 @@
 -- A whole number of k digits more than the format keeps, as the nearest float: `round` keeps the leading digits and drops k, and the bit pattern of what it gives
 -- has the exponent's field above the kept digits. Stated over the format. Assumes nothing.
-use mathlib.Core.Path.{_≡_, refl, sym, ap, _∙_, subst}
+use mathlib.Core.Path.{_≡_, sym, ap, _∙_, subst}
 use mathlib.Core.Logic.{_⊎_, inl, inr}
 use mathlib.Core.Bool.{true, false, true≢false}
 use Prim.Native.Nat.{ℕ, suc, _+_, _-_, _*_, _/_, _%_, _^_, _≤_, _<_, compare}
-use native.Mathlib.Nat.{le-refl, le-trans, le-of-eq, le-antisymm, lt-of-lt-of-le, lt-of-le-of-lt, lt-of-not-le, lt-irrefl, zero-lt-suc, eq-or-lt-of-le, zero-add, suc-add, suc-mul, one-mul, mul-one, mul-comm, mul-assoc, mul-pos, mul-le-mul-right, mul-lt-mul-of-pos-right, mul-div-cancel, le-div-iff-mul-le, div-one, pow-suc, pow-succ'}
+use native.Mathlib.Nat.{le-refl, le-trans, le-of-eq, le-antisymm, lt-of-lt-of-le, lt-of-le-of-lt, lt-of-not-le, lt-irrefl, zero-lt-suc, eq-or-lt-of-le, zero-add, suc-add, suc-mul, one-mul, mul-comm, mul-assoc, mul-pos, mul-le-mul-right, mul-div-cancel, le-div-iff-mul-le, div-one, pow-suc, pow-succ'}
 use native.Mathlib.Omega.{arith}
-use lib.IntN.{pos}
-use lib.Dec.{T}
 use lib.Pow.{pow-add, pow-pos, pow-mono, pow-lt, shl-lt, shr-lt}
 use lib.Ieee.{Float, nan, inf, fin, Format, prec, emax, low, up, down, size, units, round, hid, toBits, ofBits}
 use lib.Ieee.Digits.{size-lt, size-le}

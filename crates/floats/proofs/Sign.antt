@@ -4,7 +4,7 @@ use mathlib.Core.Bool.{Bool, true, false, cond}
 use Prim.Native.Nat.{ℕ, zero, suc, _+_, _*_, _^_}
 use lib.IntN.{pos, negsuc}
 use lib.Dec.{ltb}
-use lib.Ieee.{Float, inf, Format, prec, emax, low, odd, units, round, neg, ofInt}
+use lib.Ieee.{inf, Format, prec, emax, low, odd, units, round, neg, ofInt}
 use lib.Ieee.Fits.{round-is}
 
 neg-odd : (d q k l : ℕ) → neg (odd d false q k l) ≡ odd d true q k l

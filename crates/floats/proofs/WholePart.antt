@@ -1,8 +1,8 @@
 -- A float that is not negative, by the fraction a / c that it equals: its cast to an unsigned number is a / c cut to a whole number, and its place among -1 and the powers of two is that of a / c.
 -- Assumes nothing.
-use mathlib.Core.Path.{_≡_, sym, ap, _∙_, subst}
+use mathlib.Core.Path.{_≡_, sym, _∙_, subst}
 use mathlib.Core.Bool.{true, false, true≢false}
-use Prim.Native.Nat.{ℕ, _+_, _-_, _*_, _/_, _^_, _≤_, _<_, min}
+use Prim.Native.Nat.{ℕ, _+_, _-_, _*_, _/_, _^_, _<_, min}
 use native.Mathlib.Nat.{le-of-eq, lt-of-lt-of-le, lt-of-le-of-lt, one-mul, mul-one, mul-right-comm, mul-lt-mul-of-pos-right, lt-of-mul-lt-mul-right, div-lt-iff-lt-mul, le-add-right}
 use native.Mathlib.Omega.{arith}
 use lib.Dec.{T, lt→ltb}

@@ -1,5 +1,7 @@
 // The float helpers of the receiver, at f32. Each takes every float: a NaN, an infinity, -0 and a
 // subnormal are answered as the definition that the contract names answers them.
+mod exports;
+
 ghost use mathlib.Core.Path.{_≡_};
 ghost use mathlib.Core.Bool.{false};
 ghost use Prim.Native.Nat.{_<_, _^_, compare};

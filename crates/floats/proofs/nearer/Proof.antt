@@ -1,9 +1,7 @@
 -- `floats::nearer` meets its contract. Each arm is the clause of `nearest` for the order that its tests found.
 -- Assumes nothing.
-use mathlib.Core.Path.{_≡_, refl, sym, ap, _∙_}
-use Prim.Native.Nat.{ℕ, suc, _+_, _<_, _≤_, Ordering}
+use mathlib.Core.Path.{sym, ap, _∙_}
 use native.Mathlib.Numerals.{add-one}
-use native.Mathlib.Omega.{arith}
 use borrow.Author.Needs.{needs}
 use lib.Arith.{lt-of-le-ne}
 use lib.Ieee.{nearest}

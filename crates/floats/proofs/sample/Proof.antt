@@ -6,7 +6,7 @@ use Prim.Native.Nat.{ℕ, suc, _+_, _-_, _*_, _<_, _≤_}
 use native.Mathlib.Omega.{arith}
 use borrow.Author.Needs.{needs}
 use borrow.Author.Tests.{lt-ltb, le-ltb}
-use lib.IntN.{ℤ, pos, negsuc}
+use lib.IntN.{pos, negsuc}
 use lib.Ieee.{Float, binary32, div, neg, ofInt, ofBits}
 use Rattle.model.specs.Floats.{nearest, natf, signed16, sample}
 use Rattle.floats.proofs.Sign.{neg-ofInt}
