@@ -2,15 +2,16 @@
 use mathlib.Core.Path.{_≡_, sym, ap, _∙_, subst}
 use mathlib.Core.Bool.{Bool, false, _&&_}
 use Prim.Native.Nat.{ℕ, suc, _+_, _-_, _*_, _%_, _^_, _≤_, _<_}
-use native.Mathlib.Nat.{le-of-eq, lt-of-lt-of-le, lt-of-le-of-lt, lt-irrefl, lt-of-not-le, le-of-suc-le-suc, mul-one, mul-comm, mul-assoc, mul-left-comm, mul-pos, mul-lt-mul-of-pos-right, lt-of-mul-lt-mul-right, two-mul, pow-succ'}
+use native.Mathlib.Nat.{le-of-eq, lt-of-lt-of-le, lt-of-le-of-lt, mul-one, mul-comm, mul-assoc, mul-left-comm, mul-pos, mul-lt-mul-of-pos-right, lt-of-mul-lt-mul-right, two-mul, pow-succ'}
 use native.Mathlib.Omega.{arith}
 use lib.IntN.{ℤ, pos, negsuc}
 use lib.Dec.{T, leb, ltb, eqb, leb→le, ltb→lt}
-use lib.Pow.{pow-add, pow-pos, pow-lt}
+use lib.Pow.{pow-add, pow-pos}
 use lib.Ieee.{Float, fin, Format, prec, emax, low, up, down, add, sum, fits}
 use lib.Ieee.Fits.{and-l, and-r, down-pos}
 use lib.Ieee.Exact.{HasValue, round-exact}
 use lib.Ieee.Scale.{round-same}
+use Rattle.floats.proofs.Powers.{exponent-le}
 
 -- what `fits` tells of a value that is not zero
 pub in-range : (f : Format) (s : Bool) (m : ℕ) (e : ℤ) → T (fits f (fin s (suc m) e)) → (suc m < 2 ^ prec f) × (down e ≤ 2 ^ low f) × (suc m * up e < 2 ^ suc (emax f) * down e)
@@ -26,9 +27,6 @@ in-range f s m e t =
       ltb→lt (suc m * up e) (2 ^ suc (emax f) * down e) (and-r (a && b && c) d t),
     )
 
-pow-le-back : (i j : ℕ) → 2 ^ i ≤ 2 ^ j → i ≤ j
-pow-le-back i j h = le-of-suc-le-suc (lt-of-not-le (λ (g : suc j ≤ i). lt-irrefl (2 ^ j) (lt-of-lt-of-le (pow-lt g) h)))
-
 rejoined : (k l : ℕ) → suc k ≤ l → l - k + suc k ≡ suc l
 rejoined k l h = omega arith
 
@@ -38,7 +36,7 @@ twice-in-units f (pos k) h =
     (suc k + low f, ap (λ (z : ℕ). z * 2 ^ low f) (sym (pow-succ' 2 k)) ∙ sym (pow-add 2 (suc k) (low f)) ∙ sym (mul-one (2 ^ (suc k + low f))))
 twice-in-units f (negsuc k) h =
     let l = low f in
-    (l - k, sym (pow-succ' 2 l) ∙ ap (λ (z : ℕ). 2 ^ z) (sym (rejoined k l (pow-le-back (suc k) l h))) ∙ pow-add 2 (l - k) (suc k))
+    (l - k, sym (pow-succ' 2 l) ∙ ap (λ (z : ℕ). 2 ^ z) (sym (rejoined k l (exponent-le (suc k) l h))) ∙ pow-add 2 (l - k) (suc k))
 
 twice-is : (n d : ℕ) → (n * d + n * d) * d ≡ 2 * n * (d * d)
 twice-is n d = ap (λ (z : ℕ). z * d) (sym (two-mul (n * d))) ∙ ap (λ (z : ℕ). z * d) (sym (mul-assoc 2 n d)) ∙ mul-assoc (2 * n) d d

@@ -1,15 +1,15 @@
--- Half up by whole numbers: of n / d, one more than the whole part of its double, halved, is (2 n + d) / (2 d). Assumes nothing.
+-- Half up in whole numbers: one more than the whole part of 2 n / d, halved, is (2 n + d) / (2 d), which is the definition's. Assumes nothing.
 use mathlib.Core.Path.{_≡_, refl, sym, ap, _∙_, subst}
 use mathlib.Core.Bool.{true, false}
 use Prim.Native.Nat.{ℕ, zero, suc, _+_, _*_, _/_, _^_, _≤_, _<_}
-use native.Mathlib.Nat.{lt-irrefl, lt-of-lt-of-le, zero-mul, one-mul, mul-one, mul-comm, mul-assoc, mul-le-mul-right, mul-lt-mul-of-pos-left, add-div-right, div-div-eq-div-mul, div-lt-iff-lt-mul}
+use native.Mathlib.Nat.{lt-irrefl, lt-of-lt-of-le, zero-mul, mul-one, mul-comm, mul-assoc, mul-le-mul-right, mul-lt-mul-of-pos-left, add-div-right, div-div-eq-div-mul, div-lt-iff-lt-mul}
 use lib.IntN.{ℤ, pos}
 use lib.Dec.{T, ltb→lt, lit≤}
 use lib.Ieee.{Float, nan, inf, fin, binary32, up, down, add, lt, fits, ofInt, toUnsigned}
 use lib.Ieee.Fits.{down-pos}
 use lib.Ieee.Exact.{HasValue}
 use Rattle.model.specs.Floats.{f0, roundHalfAway}
-use Rattle.floats.proofs.Saturate.{minus-one, two-to}
+use Rattle.floats.proofs.Saturate.{minus-one, two-to, below-times}
 use Rattle.floats.proofs.Doubling.{doubling-is-exact}
 use Rattle.floats.proofs.WholePart.{whole-part, above-minus-one, below-power}
 
@@ -59,4 +59,4 @@ half-up (inf true) t g h = absurd g
 half-up (inf false) t g h = absurd h
 half-up (fin true m e) t g h = absurd g
 half-up (fin false zero e) t g h = absurd (no-zero (down e) (up e) (ltb→lt (0 * 1 * down e) (0 * up e * 1) g))
-half-up (fin false (suc m) e) t g h = half-up-of m e t (subst (λ (z : ℕ). suc m * up e < z * down e) (one-mul (2 ^ 23)) (subst (λ (z : ℕ). z < 1 * 2 ^ 23 * down e) (mul-one (suc m * up e)) (ltb→lt (suc m * up e * 1) (1 * 2 ^ 23 * down e) h)))
+half-up (fin false (suc m) e) t g h = half-up-of m e t (below-times (suc m * up e) (2 ^ 23) (down e) (ltb→lt (suc m * up e * 1) (1 * 2 ^ 23 * down e) h))

@@ -4,23 +4,21 @@ use mathlib.Core.Path.{_≡_, sym, ap, _∙_, subst}
 use mathlib.Core.Logic.{_⊎_, inl, inr}
 use mathlib.Core.Bool.{true, false, true≢false}
 use Prim.Native.Nat.{ℕ, suc, _+_, _-_, _*_, _/_, _%_, _^_, _≤_, _<_, compare}
-use native.Mathlib.Nat.{le-refl, le-trans, le-of-eq, le-antisymm, lt-of-lt-of-le, lt-of-le-of-lt, lt-of-not-le, lt-irrefl, zero-lt-suc, eq-or-lt-of-le, zero-add, suc-add, suc-mul, one-mul, mul-comm, mul-assoc, mul-pos, mul-le-mul-right, mul-div-cancel, le-div-iff-mul-le, div-one, pow-suc, pow-succ'}
+use native.Mathlib.Nat.{le-refl, le-trans, le-of-eq, le-antisymm, lt-of-le-of-lt, zero-lt-suc, eq-or-lt-of-le, zero-add, suc-add, suc-mul, one-mul, mul-comm, mul-assoc, mul-pos, mul-le-mul-right, mul-div-cancel, le-div-iff-mul-le, div-one, pow-suc, pow-succ'}
 use native.Mathlib.Omega.{arith}
-use lib.Pow.{pow-add, pow-pos, pow-mono, pow-lt, shl-lt, shr-lt}
+use lib.Pow.{pow-add, pow-pos, pow-lt, shl-lt, shr-lt}
 use lib.Ieee.{Float, nan, inf, fin, Format, prec, emax, low, up, down, size, units, round, hid, toBits, ofBits}
 use lib.Ieee.Digits.{size-lt, size-le}
 use lib.Ieee.Fits.{nearest-le, two, down-pos, round-is, round-fits}
 use lib.Ieee.Bits.{ofBits-toBits}
 use lib.Ieee.Exact.{HasValue, units-val}
 use lib.Ieee.Nearest.{closest, closest-same, nearest-ge}
+use Rattle.floats.proofs.Powers.{exponent-lt}
 
 -- ---- a number's size by its leading digit
 
-pow-lt-back : (i p : ℕ) → 2 ^ i < 2 ^ p → i < p
-pow-lt-back i p h = lt-of-not-le (λ (g : p ≤ i). lt-irrefl (2 ^ i) (lt-of-lt-of-le h (pow-mono g)))
-
 size-is : (n j : ℕ) → 2 ^ j ≤ n → n < 2 ^ suc j → size n ≡ suc j
-size-is n j lo hi = le-antisymm (size-le n (suc j) hi) (pow-lt-back j (size n) (lt-of-le-of-lt lo (size-lt n)))
+size-is n j lo hi = le-antisymm (size-le n (suc j) hi) (exponent-lt j (size n) (lt-of-le-of-lt lo (size-lt n)))
 
 -- so of n shifted by l
 size-shifted : (n j l : ℕ) → 2 ^ j ≤ n → n < 2 ^ suc j → size (n * 2 ^ l) ≡ suc (j + l)

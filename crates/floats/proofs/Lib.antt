@@ -3,6 +3,7 @@ pub mod HalfUp
 pub mod LeadingDigits
 pub mod Nan
 pub mod Ordered
+pub mod Powers
 pub mod Saturate
 pub mod Sign
 pub mod WholePart

@@ -2,18 +2,14 @@
 -- Assumes nothing.
 use mathlib.Core.Path.{_≡_, sym, _∙_, subst}
 use mathlib.Core.Bool.{true, false, true≢false}
-use Prim.Native.Nat.{ℕ, _+_, _-_, _*_, _/_, _^_, _<_, min}
+use Prim.Native.Nat.{ℕ, _+_, _*_, _/_, _^_, _<_}
 use native.Mathlib.Nat.{le-of-eq, lt-of-lt-of-le, lt-of-le-of-lt, one-mul, mul-one, mul-right-comm, mul-lt-mul-of-pos-right, lt-of-mul-lt-mul-right, div-lt-iff-lt-mul, le-add-right}
-use native.Mathlib.Omega.{arith}
 use lib.Dec.{T, lt→ltb}
 use lib.Ieee.{Float, nan, inf, fin, up, down, lt, toUnsigned}
 use lib.Ieee.Fits.{down-pos}
 use lib.Ieee.Exact.{HasValue}
 use lib.Ieee.Nearest.{div-same}
-use Rattle.floats.proofs.Saturate.{minus-one, two-to}
-
-uncut : (a c : ℕ) → a < c → min a (c - 1) ≡ a
-uncut a c h = omega arith
+use Rattle.floats.proofs.Saturate.{minus-one, two-to, one-down-pos, uncut}
 
 -- n / d is a / c, so it is below p where a / c is
 carried : (n d a c p : ℕ) → 0 < d → n * c ≡ a * d → a < p * c → n < p * d
@@ -34,7 +30,7 @@ above-minus-one nan a c v = absurd v
 above-minus-one (inf s) a c v = absurd v
 above-minus-one (fin true m e) a c v = absurd (true≢false (v .0))
 above-minus-one (fin false m e) a c v =
-    lt→ltb 0 (1 * 1 * down e + m * up e * 1) (lt-of-lt-of-le (subst (λ (k : ℕ). 0 < k) (sym (one-mul (down e))) (down-pos e)) (le-add-right (1 * 1 * down e) (m * up e * 1)))
+    lt→ltb 0 (1 * 1 * down e + m * up e * 1) (lt-of-lt-of-le (one-down-pos e) (le-add-right (1 * 1 * down e) (m * up e * 1)))
 
 pub below-power : (w : ℕ) (x : Float) (a c : ℕ) → HasValue x false a c → a < 2 ^ w * c → T (lt x (two-to w))
 unfolding lt

@@ -13,7 +13,7 @@ use lib.Ieee.Fits.{up-pos, down-pos, round-fits}
 use lib.Ieee.Exact.{round-exact}
 use lib.Ieee.Back.{round-whole, whole-unique}
 use Rattle.model.specs.Floats.{f0, roundHalfAway}
-use Rattle.floats.proofs.Saturate.{two-to}
+use Rattle.floats.proofs.Saturate.{two-to, from-times}
 use Rattle.floats.proofs.Doubling.{in-range}
 
 -- what the format holds, rounded, is itself
@@ -60,9 +60,6 @@ zero-stays s e t =
 
 -- ---- by the tests of `floats::round`, whose numbers are 0 and 2 ^ 23
 
-tidy : (n d : ℕ) → 1 * 2 ^ 23 * d ≤ n * 1 → 2 ^ 23 * d ≤ n
-tidy n d h = omega arith
-
 pub none-below-zero : (m : ℕ) (e : ℤ) → lt (fin false m e) f0 ≡ true → ⊥
 unfolding lt
 none-below-zero m e h = go (m * up e) (down e) (ltb-true (m * up e * 1) (0 * 1 * down e) h)
@@ -82,7 +79,7 @@ large-positive-stays nan t g h = absurd (false≢true g)
 large-positive-stays (inf s) t g h = unfold roundHalfAway in refl
 large-positive-stays (fin true m e) t g h = absurd (false≢true g)
 large-positive-stays (fin false zero e) t g h = zero-stays false e t
-large-positive-stays (fin false (suc m) e) t g h = large-stays false m e t (tidy (suc m * up e) (down e) (ltb-false (suc m * up e * 1) (1 * 2 ^ 23 * down e) h))
+large-positive-stays (fin false (suc m) e) t g h = large-stays false m e t (from-times (suc m * up e) (2 ^ 23) (down e) (ltb-false (suc m * up e * 1) (1 * 2 ^ 23 * down e) h))
 
 pub large-negative-stays : (x : Float) → T (fits binary32 x) → lt x f0 ≡ true → lt (fin true 1 (pos 23)) x ≡ false → x ≡ roundHalfAway x
 unfolding lt
@@ -90,7 +87,7 @@ large-negative-stays nan t g h = absurd (false≢true g)
 large-negative-stays (inf s) t g h = unfold roundHalfAway in refl
 large-negative-stays (fin false m e) t g h = absurd (none-below-zero m e g)
 large-negative-stays (fin true zero e) t g h = zero-stays true e t
-large-negative-stays (fin true (suc m) e) t g h = large-stays true m e t (tidy (suc m * up e) (down e) (ltb-false (suc m * up e * 1) (1 * 2 ^ 23 * down e) h))
+large-negative-stays (fin true (suc m) e) t g h = large-stays true m e t (from-times (suc m * up e) (2 ^ 23) (down e) (ltb-false (suc m * up e * 1) (1 * 2 ^ 23 * down e) h))
 
 pub neither-side-stays : (x : Float) → T (fits binary32 x) → lt f0 x ≡ false → lt x f0 ≡ false → x ≡ roundHalfAway x
 unfolding lt

@@ -19,7 +19,8 @@ pub fn is_finite(x: f32) -> bool
     if x < top { -top < x } else { false }
 }
 
-// The larger of a and b. A NaN is skipped: the other one is the answer.
+// b where it is above a or a is a NaN, else a: so a NaN is skipped, and of two zeros the first is
+// the answer.
 pub fn max(a: f32, b: f32) -> f32
     ensures { λ r. ⌜ r ≡ maxf a b ⌝ }
 {

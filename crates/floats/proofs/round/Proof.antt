@@ -23,13 +23,13 @@ held c = subst T (sym (c .good .0 .1)) tt
 not-zero : (n d : ℕ) → 0 < n * 1 + 0 * 1 * d → 0 * 1 * d < n * 1
 not-zero n d h = omega arith
 
-negated-is-above-zero : (x : Float) → lt x f0 ≡ true → lt (fin true 1 (pos 23)) x ≡ true → T (lt f0 (neg x))
+negated-is-above-zero : (x : Float) → lt x f0 ≡ true → T (lt f0 (neg x))
 unfolding lt neg
-negated-is-above-zero nan g h = absurd (false≢true g)
-negated-is-above-zero (inf true) g h = tt
-negated-is-above-zero (inf false) g h = absurd (false≢true g)
-negated-is-above-zero (fin true m e) g h = lt→ltb (0 * 1 * down e) (m * up e * 1) (not-zero (m * up e) (down e) (ltb-true 0 (m * up e * 1 + 0 * 1 * down e) g))
-negated-is-above-zero (fin false m e) g h = absurd (none-below-zero m e g)
+negated-is-above-zero nan g = absurd (false≢true g)
+negated-is-above-zero (inf true) g = tt
+negated-is-above-zero (inf false) g = absurd (false≢true g)
+negated-is-above-zero (fin true m e) g = lt→ltb (0 * 1 * down e) (m * up e * 1) (not-zero (m * up e) (down e) (ltb-true 0 (m * up e * 1 + 0 * 1 * down e) g))
+negated-is-above-zero (fin false m e) g = absurd (none-below-zero m e g)
 
 negated-is-small : (x : Float) → lt x f0 ≡ true → lt (fin true 1 (pos 23)) x ≡ true → T (lt (neg x) (two-to 23))
 unfolding lt neg
@@ -55,7 +55,7 @@ half-up-requires-2 : tie.Need-half-up-requires-2
 unfolding ofBits neg
 half-up-requires-2 c κs =
     let x = c .before .before .before .args .x in
-    (negated-is-above-zero x (c .before .if3 .taken) (c .if4 .taken), negated-is-small x (c .before .if3 .taken) (c .if4 .taken))
+    (negated-is-above-zero x (c .before .if3 .taken), negated-is-small x (c .before .if3 .taken) (c .if4 .taken))
 
 returns : tie.Need-returns
 returns c = search needs
