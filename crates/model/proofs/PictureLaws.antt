@@ -36,7 +36,7 @@ smoothing-length smoothing row old =
     (not (eqb (length old) (length row)) || Ieee.le f1 w) row (zipWith (smoothed w) old row)
     (λ copied. refl) (λ moved. zipWith-length _ old row (eqb-true _ _ (not-false _ (neither-first _ _ moved))))
 
-drawn-row-length : (width : ℕ) (top range zoom : Float) (row : List Float) → length (drawnRow width top range zoom row) ≡ width
+pub drawn-row-length : (width : ℕ) (top range zoom : Float) (row : List Float) → length (drawnRow width top range zoom row) ≡ width
 unfolding drawnRow
 drawn-row-length width top range zoom row = length-map (countFrom 0 width) _ ∙ countFrom-length 0 width
 
@@ -47,12 +47,12 @@ one-row-and-rest w (suc h) some-rows =
     let but-one : suc h - 1 ≡ h = omega arith in
     rw but-one (omega arith)
 
-pub picture-length : (z : Sizes) (top range zoom : Float) (row : List Float) (old : List ℕ)
-    → 1 ≤ z .height → length old ≡ z .width * z .height
-    → length (pictureAfter z top range zoom row old) ≡ z .width * z .height
+pub picture-length : (width height : ℕ) (top range zoom : Float) (row : List Float) (old : List ℕ)
+    → 1 ≤ height → length old ≡ width * height
+    → length (pictureAfter width height top range zoom row old) ≡ width * height
 unfolding pictureAfter
-picture-length z top range zoom row old some-rows full =
-    simp (length-append, length-take, drawn-row-length, full) (one-row-and-rest (z .width) (z .height) some-rows)
+picture-length width height top range zoom row old some-rows full =
+    simp (length-append, length-take, drawn-row-length, full) (one-row-and-rest width height some-rows)
 
 -- ---- what a channel shows
 
@@ -72,7 +72,7 @@ chunk-result-keeps z c kept (some values) some-rows row fits h =
       row = row;
       spectrum = rw spectrum-length (fits .1);
       smoothing = rw smoothing-length (fits .1);
-      picture = picture-length z _ _ _ _ (c .picture) some-rows (h .picture);
+      picture = picture-length (z .width) (z .height) _ _ _ _ (c .picture) some-rows (h .picture);
     }
 
 pub waterfall-keeps : (z : Sizes) (payload : List ℕ) (c : Channel) → totalAllowed z payload ≡ true → 1 ≤ z .height

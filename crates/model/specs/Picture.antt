@@ -6,7 +6,6 @@ use lib.ListN.{length, take, getD}
 use lib.Ieee as Ieee
 use lib.Ieee.{Float}
 use Rattle.model.specs.Floats.{_-f_, _*f_, _/f_, asUnsigned, roundHalfAway, maxf, clampf, natf, f0, f1, f0·25, f0·5, f0·75}
-use Rattle.model.specs.Sizes.{Sizes}
 
 -- ---- zoom
 
@@ -70,6 +69,5 @@ unfoldable pub drawnRow : ℕ → Float → Float → Float → List Float → L
 drawnRow width top range zoom row = map (pixel width top range zoom row) (countFrom 0 width)
 
 -- rows move down one, and the top row is drawn
-unfoldable pub pictureAfter : Sizes → Float → Float → Float → List Float → List ℕ → List ℕ
-pictureAfter z top range zoom row old =
-    drawnRow (z .width) top range zoom row ++ take ((z .height - 1) * z .width) old
+unfoldable pub pictureAfter : ℕ → ℕ → Float → Float → Float → List Float → List ℕ → List ℕ
+pictureAfter width height top range zoom row old = drawnRow width top range zoom row ++ take ((height - 1) * width) old

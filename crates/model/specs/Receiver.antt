@@ -400,7 +400,7 @@ shownRow z kept values c =
       row = kept;
       spectrum = spectrumAfter values (c .spectrum);
       smoothing = smooth;
-      picture = pictureAfter z (shownTop d) (shownRange d) (d .zoom) smooth (c .picture);
+      picture = pictureAfter (z .width) (z .height) (shownTop d) (shownRange d) (d .zoom) smooth (c .picture);
       display = d;
     }
 
