@@ -1,8 +1,6 @@
 -- `rising_vectors::in_rising_order` is safe and ends. The loop's invariant: there is a value before. Assumes nothing.
-use mathlib.Core.Path.{_≡_}
-use Prim.Native.Nat.{_≤_, _<_, _-_}
-use native.Mathlib.Omega.{arith}
-use lib.ListN.{length, length-set}
+use Prim.Native.Nat.{_≤_, _-_}
+use lib.ListN.{length}
 use borrow.Author.Needs.{needs}
 use Rattle.rising_vectors.proofs.in_rising_order.Statement.{statement}
 use Rattle.rising_vectors.proofs.in_rising_order.Tie as tie

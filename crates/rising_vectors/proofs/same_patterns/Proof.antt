@@ -1,8 +1,6 @@
 -- `rising_vectors::same_patterns` is safe and ends: both lists are as long. Assumes nothing.
-use mathlib.Core.Path.{_≡_}
-use Prim.Native.Nat.{_≤_, _<_, _-_}
-use native.Mathlib.Omega.{arith}
-use lib.ListN.{length, length-set}
+use Prim.Native.Nat.{_≤_, _-_}
+use lib.ListN.{length}
 use borrow.Author.Needs.{needs}
 use Rattle.rising_vectors.proofs.same_patterns.Statement.{statement}
 use Rattle.rising_vectors.proofs.same_patterns.Tie as tie
