@@ -9,7 +9,7 @@ use borrow.Author.Tests.{le-leb, lt-leb}
 use Rattle.model.specs.Bytes.{bigEndianBytes, placed, writtenInto}
 use Rattle.model.specs.Framing.{magicNumber, timeHeader, requestType, responseType, TimeRequest, TimeResponse, buildRequest, buildResponse}
 use Rattle.model.proofs.ByteParts.{Front}
-use Rattle.udp_framing.specs.Views.{headerBytes, BuiltAs}
+use Rattle.udp_framing.specs.Promises.{headerBytes, BuiltAs}
 use Rattle.udp_framing.specs.declared.Built.the-variants.{Written, Refused}
 
 pub header-of-fields : (type sequence timestamp : ℕ) → type < 256

@@ -1,6 +1,7 @@
 // Framing of datagrams: the media header, the send time of an audio datagram, and the time-sync packets. All numbers
 // are big-endian.
 mod big_endian;
+mod exports;
 pub mod words;
 
 ghost use mathlib.Core.Path.{_≡_};
@@ -8,7 +9,8 @@ ghost use Prim.Native.Nat.{_≤_};
 ghost use lib.ListN.{length};
 ghost use Rattle.model.specs.Bytes.{placed};
 ghost use Rattle.model.specs.Framing.{parseHeader, validHeader, audioStart, audioSendTime, buildRequest, buildResponse, parseRequest, parseResponse};
-ghost use Rattle.udp_framing.specs.Views.{headerOf, headerFound, sendTimeFound, orRefusal, requestAnswer, responseAnswer, headerBytes, BuiltAs, Measured};
+ghost use Rattle.udp_framing.specs.Views.{headerOf, headerFound, sendTimeFound, orRefusal, requestAnswer, responseAnswer};
+ghost use Rattle.udp_framing.specs.Promises.{headerBytes, BuiltAs, Measured};
 use big_endian::read_u8;
 use big_endian::read_u16;
 use big_endian::read_u32;
@@ -180,7 +182,7 @@ pub fn parse_time_sync_request(packet: &[u8]) -> TimeSyncRequest
     if packet.len() < HEADER_LEN + 8 {
         return TimeSyncRequest::Refused;
     }
-    let t1_ns = read_u64(packet, 16);
+    let t1_ns = read_u64(packet, HEADER_LEN);
     TimeSyncRequest::Numbers {
         probe_id: header.sequence,
         t1_ns,

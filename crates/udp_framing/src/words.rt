@@ -4,7 +4,8 @@ ghost use Prim.Native.Nat.{_≤_};
 ghost use lib.IntN.{pos, _-ℤ_};
 ghost use lib.Signed.{quotZ};
 ghost use Rattle.model.specs.Clock.{bits64, signed64};
-ghost use Rattle.udp_framing.specs.Views.{sumOf, Added, Subtracted};
+ghost use Rattle.udp_framing.specs.Views.{sumOf};
+ghost use Rattle.udp_framing.specs.Promises.{Added, Subtracted};
 use std::num::wrapping_add_u64;
 use std::num::wrapping_sub_u64;
 
