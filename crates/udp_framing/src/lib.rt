@@ -1,7 +1,6 @@
 // Framing of datagrams: the media header, the send time of an audio datagram, and the time-sync packets. All numbers
 // are big-endian.
 mod big_endian;
-mod exports;
 pub mod words;
 
 ghost use mathlib.Core.Path.{_≡_};

@@ -1,9 +1,9 @@
--- `udp_framing::exports::put` meets its contract: a store past the end changes nothing. Assumes nothing.
+-- `udp_framing_exports::put` meets its contract: a store past the end changes nothing. Assumes nothing.
 use mathlib.Core.Path.{sym}
 use lib.Seq.{set-out}
 use borrow.Author.Needs.{needs}
-use Rattle.udp_framing.proofs.exports.put.Statement.{statement}
-use Rattle.udp_framing.proofs.exports.put.Tie as tie
+use Rattle.udp_framing_exports.proofs.put.Statement.{statement}
+use Rattle.udp_framing_exports.proofs.put.Tie as tie
 
 mul-numbers : tie.Need-mul-numbers
 mul-numbers c = search needs

@@ -1,10 +1,10 @@
--- `udp_framing::exports::udp_framing_build_time_sync_response` meets its contract: the size is the one that was written. Assumes nothing.
-use Rattle.udp_framing.proofs.HandedOver.{size-of-written, size-of-refused}
+-- `udp_framing_exports::udp_framing_build_time_sync_response` meets its contract: the size is the one that was written. Assumes nothing.
+use Rattle.udp_framing_exports.proofs.HandedOver.{size-of-written, size-of-refused}
 use borrow.Author.Needs.{needs}
-use Rattle.udp_framing.proofs.exports.udp_framing_build_time_sync_response.Statement.{
+use Rattle.udp_framing_exports.proofs.udp_framing_build_time_sync_response.Statement.{
   statement,
 }
-use Rattle.udp_framing.proofs.exports.udp_framing_build_time_sync_response.Tie as tie
+use Rattle.udp_framing_exports.proofs.udp_framing_build_time_sync_response.Tie as tie
 
 build-time-sync-response-requires : tie.Need-build-time-sync-response-requires
 build-time-sync-response-requires c κs = search needs

@@ -1,13 +1,13 @@
--- `udp_framing::exports::udp_framing_parse_time_sync_response` meets its contract: each number is stored behind the one before. Assumes nothing.
+-- `udp_framing_exports::udp_framing_parse_time_sync_response` meets its contract: each number is stored behind the one before. Assumes nothing.
 use Rattle.udp_framing.specs.Views.{responseAnswer}
-use Rattle.udp_framing.specs.Handing.{responseNumbers}
-use Rattle.udp_framing.proofs.HandedOver.{accepted-is-there, refused-is-missing, nothing-handed, all-handed}
+use Rattle.udp_framing_exports.specs.Handing.{responseNumbers}
+use Rattle.udp_framing_exports.proofs.HandedOver.{accepted-is-there, refused-is-missing, nothing-handed, all-handed}
 use mathlib.Core.Path.{sym, ap, _∙_}
 use borrow.Author.Needs.{needs}
-use Rattle.udp_framing.proofs.exports.udp_framing_parse_time_sync_response.Statement.{
+use Rattle.udp_framing_exports.proofs.udp_framing_parse_time_sync_response.Statement.{
   statement,
 }
-use Rattle.udp_framing.proofs.exports.udp_framing_parse_time_sync_response.Tie as tie
+use Rattle.udp_framing_exports.proofs.udp_framing_parse_time_sync_response.Tie as tie
 
 parse-time-sync-response-requires : tie.Need-parse-time-sync-response-requires
 parse-time-sync-response-requires c κs = search needs

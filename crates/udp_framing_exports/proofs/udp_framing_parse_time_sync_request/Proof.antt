@@ -1,13 +1,13 @@
--- `udp_framing::exports::udp_framing_parse_time_sync_request` meets its contract: each number is stored behind the one before. Assumes nothing.
+-- `udp_framing_exports::udp_framing_parse_time_sync_request` meets its contract: each number is stored behind the one before. Assumes nothing.
 use Rattle.udp_framing.specs.Views.{requestAnswer}
-use Rattle.udp_framing.specs.Handing.{requestNumbers}
-use Rattle.udp_framing.proofs.HandedOver.{accepted-is-there, refused-is-missing, nothing-handed, all-handed}
+use Rattle.udp_framing_exports.specs.Handing.{requestNumbers}
+use Rattle.udp_framing_exports.proofs.HandedOver.{accepted-is-there, refused-is-missing, nothing-handed, all-handed}
 use mathlib.Core.Path.{sym, ap, _∙_}
 use borrow.Author.Needs.{needs}
-use Rattle.udp_framing.proofs.exports.udp_framing_parse_time_sync_request.Statement.{
+use Rattle.udp_framing_exports.proofs.udp_framing_parse_time_sync_request.Statement.{
   statement,
 }
-use Rattle.udp_framing.proofs.exports.udp_framing_parse_time_sync_request.Tie as tie
+use Rattle.udp_framing_exports.proofs.udp_framing_parse_time_sync_request.Tie as tie
 
 parse-time-sync-request-requires : tie.Need-parse-time-sync-request-requires
 parse-time-sync-request-requires c κs = search needs

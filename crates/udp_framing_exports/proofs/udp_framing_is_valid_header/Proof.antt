@@ -1,9 +1,9 @@
--- `udp_framing::exports::udp_framing_is_valid_header` meets its contract: the header has the two numbers. Assumes nothing.
+-- `udp_framing_exports::udp_framing_is_valid_header` meets its contract: the header has the two numbers. Assumes nothing.
 use mathlib.Core.Path.{ap, _∙_}
 use Rattle.model.specs.Framing.{validHeader}
 use borrow.Author.Needs.{needs}
-use Rattle.udp_framing.proofs.exports.udp_framing_is_valid_header.Statement.{statement}
-use Rattle.udp_framing.proofs.exports.udp_framing_is_valid_header.Tie as tie
+use Rattle.udp_framing_exports.proofs.udp_framing_is_valid_header.Statement.{statement}
+use Rattle.udp_framing_exports.proofs.udp_framing_is_valid_header.Tie as tie
 
 header-with-requires : tie.Need-header-with-requires
 header-with-requires c κs = search needs

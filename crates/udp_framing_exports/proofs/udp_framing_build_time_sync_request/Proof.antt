@@ -1,10 +1,10 @@
--- `udp_framing::exports::udp_framing_build_time_sync_request` meets its contract: the size is the one that was written. Assumes nothing.
-use Rattle.udp_framing.proofs.HandedOver.{size-of-written, size-of-refused}
+-- `udp_framing_exports::udp_framing_build_time_sync_request` meets its contract: the size is the one that was written. Assumes nothing.
+use Rattle.udp_framing_exports.proofs.HandedOver.{size-of-written, size-of-refused}
 use borrow.Author.Needs.{needs}
-use Rattle.udp_framing.proofs.exports.udp_framing_build_time_sync_request.Statement.{
+use Rattle.udp_framing_exports.proofs.udp_framing_build_time_sync_request.Statement.{
   statement,
 }
-use Rattle.udp_framing.proofs.exports.udp_framing_build_time_sync_request.Tie as tie
+use Rattle.udp_framing_exports.proofs.udp_framing_build_time_sync_request.Tie as tie
 
 build-time-sync-request-requires : tie.Need-build-time-sync-request-requires
 build-time-sync-request-requires c κs = search needs

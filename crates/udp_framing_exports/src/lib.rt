@@ -1,17 +1,17 @@
-// The library for callers in other languages: numbers go as themselves, and a value of several numbers into a slice
+// udp_framing for callers in other languages: numbers go as themselves, and a value of several numbers into a slice
 // that the caller lends. What the slice has no room for is left out.
 ghost use mathlib.Core.Path.{_≡_};
 ghost use lib.ListN.{set};
 ghost use Rattle.model.specs.Framing.{parseHeader, validHeader, audioStart, audioSendTime, buildRequest, buildResponse, parseRequest, parseResponse};
 ghost use Rattle.model.specs.Clock.{probeOffset, probeRoundTrip};
 ghost use Rattle.udp_framing.specs.Views.{headerOf};
-ghost use Rattle.udp_framing.specs.Handing.{headerWith, headerNumbers, timeNumbers, requestNumbers, responseNumbers, HandedFrom, BuiltOr0};
-use super::Built;
-use super::MediaHeader;
-use super::ParsedHeader;
-use super::SendWall;
-use super::TimeSyncRequest;
-use super::TimeSyncResponse;
+ghost use Rattle.udp_framing_exports.specs.Handing.{headerWith, headerNumbers, timeNumbers, requestNumbers, responseNumbers, HandedFrom, BuiltOr0};
+use udp_framing::Built;
+use udp_framing::MediaHeader;
+use udp_framing::ParsedHeader;
+use udp_framing::SendWall;
+use udp_framing::TimeSyncRequest;
+use udp_framing::TimeSyncResponse;
 
 // Stores a number where the slice has the place.
 fn put(numbers: &mut [u64], at: usize, n: u64)
@@ -27,7 +27,7 @@ fn put(numbers: &mut [u64], at: usize, n: u64)
 pub extern "C" fn udp_framing_parse_media_header(packet: &[u8], numbers: &mut [u64]) -> bool
     ensures { λ r. ⌜ HandedFrom headerNumbers (parseHeader (now (packet .entry))) (now (numbers .entry)) (now (numbers .exit)) r ⌝ }
 {
-    let ParsedHeader::Header(header) = super::parse_media_header(packet) else {
+    let ParsedHeader::Header(header) = udp_framing::parse_media_header(packet) else {
         return false;
     };
     put(numbers, 0, header.magic as u64);
@@ -55,14 +55,14 @@ fn header_with(magic: u16, version: u8) -> MediaHeader
 pub extern "C" fn udp_framing_is_valid_header(magic: u16, version: u8) -> bool
     ensures { λ r. ⌜ r ≡ validHeader (headerWith magic version) ⌝ }
 {
-    super::is_valid_header(header_with(magic, version))
+    udp_framing::is_valid_header(header_with(magic, version))
 }
 
 #[no_mangle]
 pub extern "C" fn udp_framing_audio_samples_offset(version: u8) -> usize
     ensures { λ r. ⌜ r ≡ audioStart version ⌝ }
 {
-    super::audio_samples_offset(version)
+    udp_framing::audio_samples_offset(version)
 }
 
 // The send time.
@@ -74,7 +74,7 @@ pub extern "C" fn udp_framing_audio_send_wall_ns(
 ) -> bool
     ensures { λ r. ⌜ HandedFrom timeNumbers (audioSendTime (headerWith 0 version) (now (packet .entry))) (now (numbers .entry)) (now (numbers .exit)) r ⌝ }
 {
-    let SendWall::Ns(n) = super::audio_send_wall_ns(header_with(0, version), packet) else {
+    let SendWall::Ns(n) = udp_framing::audio_send_wall_ns(header_with(0, version), packet) else {
         return false;
     };
     put(numbers, 0, n);
@@ -90,7 +90,7 @@ pub extern "C" fn udp_framing_build_time_sync_request(
 ) -> usize
     ensures { λ r. ⌜ BuiltOr0 (buildRequest (record { probe = «probe_id»; t1 = «t1_ns» })) (now (target .entry)) (now (target .exit)) r ⌝ }
 {
-    let Built::Written(n) = super::build_time_sync_request(target, probe_id, t1_ns) else {
+    let Built::Written(n) = udp_framing::build_time_sync_request(target, probe_id, t1_ns) else {
         return 0;
     };
     n
@@ -107,8 +107,13 @@ pub extern "C" fn udp_framing_build_time_sync_response(
 ) -> usize
     ensures { λ r. ⌜ BuiltOr0 (buildResponse (record { probe = «probe_id»; t1 = «t1_ns»; t2 = «t2_ns»; t3 = «t3_ns» })) (now (target .entry)) (now (target .exit)) r ⌝ }
 {
-    let Built::Written(n) = super::build_time_sync_response(target, probe_id, t1_ns, t2_ns, t3_ns)
-    else {
+    let Built::Written(n) = udp_framing::build_time_sync_response(
+        target,
+        probe_id,
+        t1_ns,
+        t2_ns,
+        t3_ns,
+    ) else {
         return 0;
     };
     n
@@ -119,7 +124,8 @@ pub extern "C" fn udp_framing_build_time_sync_response(
 pub extern "C" fn udp_framing_parse_time_sync_request(packet: &[u8], numbers: &mut [u64]) -> bool
     ensures { λ r. ⌜ HandedFrom requestNumbers (parseRequest (now (packet .entry))) (now (numbers .entry)) (now (numbers .exit)) r ⌝ }
 {
-    let TimeSyncRequest::Numbers { probe_id, t1_ns } = super::parse_time_sync_request(packet) else {
+    let TimeSyncRequest::Numbers { probe_id, t1_ns } = udp_framing::parse_time_sync_request(packet)
+    else {
         return false;
     };
     put(numbers, 0, probe_id as u64);
@@ -137,7 +143,7 @@ pub extern "C" fn udp_framing_parse_time_sync_response(packet: &[u8], numbers: &
         t1_ns,
         t2_ns,
         t3_ns,
-    } = super::parse_time_sync_response(packet)
+    } = udp_framing::parse_time_sync_response(packet)
     else {
         return false;
     };
@@ -152,12 +158,12 @@ pub extern "C" fn udp_framing_parse_time_sync_response(packet: &[u8], numbers: &
 pub extern "C" fn udp_framing_clock_offset(t1: u64, t2: u64, t3: u64, t4: u64) -> i64
     ensures { λ r. ⌜ r ≡ probeOffset t1 t2 t3 t4 ⌝ }
 {
-    super::clock_offset_rtt(t1, t2, t3, t4).offset
+    udp_framing::clock_offset_rtt(t1, t2, t3, t4).offset
 }
 
 #[no_mangle]
 pub extern "C" fn udp_framing_clock_rtt(t1: u64, t2: u64, t3: u64, t4: u64) -> i64
     ensures { λ r. ⌜ r ≡ probeRoundTrip t1 t2 t3 t4 ⌝ }
 {
-    super::clock_offset_rtt(t1, t2, t3, t4).rtt
+    udp_framing::clock_offset_rtt(t1, t2, t3, t4).rtt
 }

@@ -1,12 +1,12 @@
--- `udp_framing::exports::udp_framing_audio_send_wall_ns` meets its contract: the time that was found is stored. Assumes nothing.
+-- `udp_framing_exports::udp_framing_audio_send_wall_ns` meets its contract: the time that was found is stored. Assumes nothing.
 use Rattle.udp_framing.specs.Views.{sendTimeFound}
-use Rattle.udp_framing.specs.Handing.{timeNumbers}
-use Rattle.udp_framing.proofs.HandedOver.{nothing-handed, all-handed}
+use Rattle.udp_framing_exports.specs.Handing.{timeNumbers}
+use Rattle.udp_framing_exports.proofs.HandedOver.{nothing-handed, all-handed}
 use mathlib.Core.Path.{sym, ap, _∙_}
 use Rattle.model.specs.Framing.{audioSendTime, Header}
 use borrow.Author.Needs.{needs}
-use Rattle.udp_framing.proofs.exports.udp_framing_audio_send_wall_ns.Statement.{statement}
-use Rattle.udp_framing.proofs.exports.udp_framing_audio_send_wall_ns.Tie as tie
+use Rattle.udp_framing_exports.proofs.udp_framing_audio_send_wall_ns.Statement.{statement}
+use Rattle.udp_framing_exports.proofs.udp_framing_audio_send_wall_ns.Tie as tie
 
 header-with-requires : tie.Need-header-with-requires
 header-with-requires c κs = search needs

@@ -1,11 +1,11 @@
--- `udp_framing::exports::udp_framing_parse_media_header` meets its contract: each field is stored behind the one before. Assumes nothing.
+-- `udp_framing_exports::udp_framing_parse_media_header` meets its contract: each field is stored behind the one before. Assumes nothing.
 use Rattle.udp_framing.specs.Views.{headerFound}
-use Rattle.udp_framing.specs.Handing.{headerNumbers}
-use Rattle.udp_framing.proofs.HandedOver.{nothing-handed, all-handed}
+use Rattle.udp_framing_exports.specs.Handing.{headerNumbers}
+use Rattle.udp_framing_exports.proofs.HandedOver.{nothing-handed, all-handed}
 use mathlib.Core.Path.{sym, ap, _∙_}
 use borrow.Author.Needs.{needs}
-use Rattle.udp_framing.proofs.exports.udp_framing_parse_media_header.Statement.{statement}
-use Rattle.udp_framing.proofs.exports.udp_framing_parse_media_header.Tie as tie
+use Rattle.udp_framing_exports.proofs.udp_framing_parse_media_header.Statement.{statement}
+use Rattle.udp_framing_exports.proofs.udp_framing_parse_media_header.Tie as tie
 
 parse-media-header-requires : tie.Need-parse-media-header-requires
 parse-media-header-requires c κs = search needs

@@ -8,11 +8,11 @@ use lib.ListN.{length}
 use lib.Seq.{sets}
 use Rattle.model.specs.Bytes.{writtenInto}
 use Rattle.model.proofs.BoolLaws.{clash}
 use Rattle.udp_framing.specs.Views.{accepted, refused, orRefusal}
 use Rattle.udp_framing.specs.Promises.{sizeOrRefusal, BuiltAs}
-use Rattle.udp_framing.specs.Handing.{sizeOr0, HandedFrom, BuiltOr0}
+use Rattle.udp_framing_exports.specs.Handing.{sizeOr0, HandedFrom, BuiltOr0}
 use Rattle.udp_framing.specs.declared.Built.{Built}
 use Rattle.udp_framing.specs.declared.Built.the-variants.{Written, Refused}
 
 module _ {A : Type 0} where
   pub accepted-is-there : (number : ℕ) {a : A} (value : Option A) → accepted a ≡ orRefusal number value → some a ≡ value
