@@ -11,14 +11,14 @@ use Rattle.udp_framing.proofs.build_time_sync_request.Tie as tie
 add-if1 : tie.Need-add-if1
 add-if1 c = search needs
 
+push-header-requires : tie.Need-push-header-requires
+push-header-requires c κs = search needs
+
 returns : tie.Need-returns
 returns c =
     let g = c .before .before .args in
     let r : TimeRequest = record { probe = g .probe-id; t1 = g .t1-ns } in
     built-refused 24 (buildRequest r) (g .target .now) (request-length r) (c .if1 .taken)
-
-push-header-requires : tie.Need-push-header-requires
-push-header-requires c κs = search needs
 
 write-u64-requires : tie.Need-write-u64-requires
 write-u64-requires c κs = search needs

@@ -11,14 +11,14 @@ use Rattle.udp_framing.proofs.build_time_sync_response.Tie as tie
 add-if1 : tie.Need-add-if1
 add-if1 c = search needs
 
+push-header-requires : tie.Need-push-header-requires
+push-header-requires c κs = search needs
+
 returns : tie.Need-returns
 returns c =
     let g = c .before .before .args in
     let r : TimeResponse = record { probe = g .probe-id; t1 = g .t1-ns; t2 = g .t2-ns; t3 = g .t3-ns } in
     built-refused 40 (buildResponse r) (g .target .now) (response-length r) (c .if1 .taken)
-
-push-header-requires : tie.Need-push-header-requires
-push-header-requires c κs = search needs
 
 write-u64-requires : tie.Need-write-u64-requires
 write-u64-requires c κs = search needs
