@@ -1,4 +1,5 @@
--- Time-sync packets: what the tests of a packet come to once its header is parsed. Assumes nothing.
+-- Time-sync packets: what the tests of a packet come to once its header is parsed, and the law that a packet that is built parses to what it was
+-- built from. Assumes nothing.
 use Prim.Native.Nat.{ℕ, _^_, _≤_, _<_}
 use native.Mathlib.Omega.{arith}
 use mathlib.Core.Path.{_≡_, refl, sym, ap, _∙_}
@@ -6,9 +7,9 @@ use mathlib.Core.Bool.{Bool, true, false, _&&_, cond}
 use mathlib.Core.Option.{none, some}
 use mathlib.Core.List.{List, [], _++_, append-nil}
 use lib.ListN.{length, length-append}
-use Rattle.model.specs.Bytes.{bigEndian, bigEndianAt, bigEndianBytes}
 use lib.Dec.{leb, ltb}
 use borrow.Author.Tests.{ltb-true, le-leb, lt-leb, eq-eqb, ne-eqb}
+use Rattle.model.specs.Bytes.{bigEndian, bigEndianAt, bigEndianBytes}
 use Rattle.model.specs.Framing.{Header, headerLength, headerFields, parseHeader, TimeRequest, TimeResponse, requestType, responseType, timeHeader, buildRequest, buildResponse, timePacket, parseRequest, parseResponse}
 use Rattle.model.proofs.BytesLaws.{number-of-bytes}
 use Rattle.model.proofs.BoolLaws.{by-test, clash, both-and}
@@ -82,7 +83,7 @@ response-length r = refl
 
 -- ---- what is built parses to what it was built from, also where more bytes follow
 
--- the sum of what is built and what follows is at least the size of what is built
+-- bytes that follow do not make a packet too short
 long-enough : (size : ℕ) (packet rest : List ℕ) → length packet ≡ size → leb size (length (packet ++ rest)) ≡ true
 long-enough size packet rest e = le-leb size (length (packet ++ rest)) (omega (arith, length-append packet rest))
 

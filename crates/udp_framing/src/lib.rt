@@ -1,5 +1,5 @@
-// Framing of datagrams: the media header, the send time of an audio datagram, and the time-sync packets. All numbers
-// are big-endian.
+// Framing of datagrams: the media header, the send time of an audio datagram, the time-sync packets, and the offset and
+// round trip that their times come to. All numbers are big-endian.
 mod big_endian;
 pub mod words;
 
