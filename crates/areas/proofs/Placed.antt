@@ -19,6 +19,16 @@ module _ {ℓ} {A : Type ℓ} where
   pub getD-part : (d : A) (at n : ℕ) (xs : List A) (i : ℕ) → i < n → getD (part at n xs) i d ≡ getD xs (at + i) d
   getD-part d at n xs i h = rw (getD-take, getD-drop)
 
+  pub part-part : (d : A) (at m i n : ℕ) (xs : List A) → at + m ≤ length xs → i + n ≤ m → part i n (part at m xs) ≡ part (at + i) n xs
+  part-part d at m i n xs fits h =
+      let l = part-length at m xs fits in
+      let a = part-length i n (part at m xs) (omega arith) in
+      let b = part-length (at + i) n xs (omega arith) in
+      ext-getD d _ _ (a ∙ sym b) (λ k q.
+      let kq : k < n = omega arith in
+      let e : at + i + k ≡ at + (i + k) = omega arith in
+      rw (getD-part d i n (part at m xs) k kq, getD-part d at m xs (i + k) (omega arith), getD-part d (at + i) n xs k kq, e))
+
   -- ---- what stands at a place
 
   pub placed-before : (d : A) (at : ℕ) (ys xs : List A) (k : ℕ) → at ≤ length xs → k < at → getD (placed at ys xs) k d ≡ getD xs k d

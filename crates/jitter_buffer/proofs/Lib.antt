@@ -1,0 +1,5 @@
+pub mod Places
+pub mod FillLoop
+pub mod FillView
+pub mod Turns
+pub mod FillTurns
