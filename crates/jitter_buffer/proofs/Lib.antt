@@ -3,3 +3,7 @@ pub mod FillLoop
 pub mod FillView
 pub mod Turns
 pub mod FillTurns
+pub mod HeldKept
+pub mod PlayView
+pub mod Plays
+pub mod Amounts

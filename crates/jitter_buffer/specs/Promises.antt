@@ -1,21 +1,25 @@
 -- What the functions of the crate ask, and what they promise. Assumes nothing.
-use Prim.Native.Nat.{ℕ, _+_, _*_, _^_, _≤_, _<_}
+use Prim.Native.Nat.{ℕ, _+_, _-_, _*_, _^_, _≤_, _<_, min}
 use mathlib.Core.Path.{_≡_}
 use mathlib.Core.Bool.{true}
 use mathlib.Core.List.{List}
-use lib.ListN.{length}
+use lib.ListN.{length, replicate}
 use lib.Ieee.{Float}
+use Rattle.model.specs.Bytes.{part, placed}
 use Rattle.model.specs.Floats.{f0}
+use Rattle.areas.specs.Parts.{moved}
 use Rattle.model.specs.Sizes.{sizesAllowed, mostWaiting}
-use Rattle.model.specs.JitterBuffer.{does, act, stopped}
+use Rattle.model.specs.JitterBuffer.{Buffer, Played, PlayResult, buffered, reset, does, act, stopped, fill, playFilled, play}
 use Rattle.model.proofs.FillStep.{Loose}
 use Rattle.model.specs.Receiver.{mostCalls, bufferHeld}
 use Rattle.sizes.specs.declared.Sizes.{Sizes}
 use Rattle.sizes.specs.View.{sizesOf, queueAt}
 use Rattle.jitter_buffer.specs.declared.JitterBuffer.{JitterBuffer}
+use Rattle.jitter_buffer.specs.declared.Popped.{Popped}
 use Rattle.jitter_buffer.specs.declared.Turn.{Turn}
 use Rattle.jitter_buffer.specs.declared.Turn.the-variants.{More, Done}
 use Rattle.jitter_buffer.specs.View.{viewFrom, viewOf}
+use Rattle.jitter_buffer.specs.Fields.{playedFields}
 
 -- the two lent parts are long enough
 pub record Lent (z : Sizes) (fs : List Float) (us : List ℕ) : Type 0 where
@@ -27,6 +31,30 @@ pub record Ready (z : Sizes) (j : JitterBuffer) (fs : List Float) (us : List ℕ
   pub allowed : sizesAllowed (sizesOf z) ≡ true
   pub held : bufferHeld (sizesOf z) (mostCalls * mostCalls) (viewOf z j fs us) ≡ true
   pub lent : Lent z fs us
+
+-- a state that could be held stays one that could be held, with one accepted call more
+abbrev pub StaysHeld : Sizes → Buffer Float → Buffer Float → Type 0
+StaysHeld z before after =
+    (limit : ℕ) → bufferHeld (sizesOf z) limit before ≡ true → bufferHeld (sizesOf z) (limit + mostCalls) after ≡ true
+
+-- ---- amounts
+
+-- the lengths are in range
+pub record Sized (z : Sizes) (j : JitterBuffer) : Type 0 where
+  pub allowed : sizesAllowed (sizesOf z) ≡ true
+  pub waiting : j .«pending_len» ≤ mostWaiting (sizesOf z)
+  pub queue : j .«playout_len» < z .target + z .packet
+
+-- the buffered amount, as a number of the fields and as the model's
+pub record BufferedAmount (z : Sizes) (j : JitterBuffer) (r : ℕ) : Type 0 where
+  pub amount : r ≡ j .«playout_len» + z .packet * j .«pending_len»
+  pub model : (fs : List Float) (us : List ℕ) → Lent z fs us → r ≡ buffered (sizesOf z) (viewOf z j fs us)
+
+-- ---- reset
+
+pub record ResetDone (z : Sizes) (j : JitterBuffer) (fs : List Float) (us : List ℕ) (r : JitterBuffer) : Type 0 where
+  pub view : viewOf z r fs us ≡ reset (viewOf z j fs us)
+  pub held : sizesAllowed (sizesOf z) ≡ true → StaysHeld z (viewOf z j fs us) (viewOf z r fs us)
 
 -- ---- fill
 
@@ -82,3 +110,40 @@ pub record Closing (z : Sizes) (j : JitterBuffer) (fs : List Float) (us : List �
   pub waiting : j .«pending_len» ≤ mostWaiting (sizesOf z)
   pub place : taken ≤ j .«pending_len»
   pub queue : j .«playout_len» < z .target + z .packet
+
+-- ---- play
+
+-- a play may drop so many samples, and give so many
+pub record CanHandOut (z : Sizes) (j : JitterBuffer) (floats n dropped : ℕ) : Type 0 where
+  pub allowed : sizesAllowed (sizesOf z) ≡ true
+  pub fits : queueAt (sizesOf z) + (z .target + z .packet) ≤ floats
+  pub queue : j .«playout_len» < z .target + z .packet
+  pub inQueue : dropped ≤ j .«playout_len»
+  pub filled : j .filled + n < 2 ^ 64
+
+-- what a play leaves, field by field and list by list, where it takes so many samples of the queue
+pub record HandedOut (z : Sizes) (j : JitterBuffer) (fs out : List Float) (dropped : ℕ) (r : Popped) (fs′ out′ : List Float) : Type 0 where
+  pub took : r .taken ≡ min (length out) (j .«playout_len» - dropped)
+  pub drops : r .dropped ≡ dropped
+  pub lacks : r .short ≡ length out - r .taken
+  pub buffer : r .buffer ≡ playedFields (j .«playout_len» - dropped - r .taken) (r .short) j
+  pub floats : fs′ ≡ moved (queueAt (sizesOf z) + dropped + r .taken) (queueAt (sizesOf z)) (j .«playout_len» - dropped - r .taken) fs
+  pub samples : out′ ≡ placed (r .taken) (replicate (r .short) f0) (placed 0 (part (queueAt (sizesOf z) + dropped) (r .taken) fs) out)
+
+-- a play of so many samples may fill, and count what is short
+pub record CanPlay (z : Sizes) (j : JitterBuffer) (fs : List Float) (us : List ℕ) (n : ℕ) : Type 0 where
+  pub fill : CanFill z j fs us
+  pub few : n ≤ 65535
+
+-- what is left and answered, as one result of the model's
+pub record PlayedAs (z : Sizes) (model : PlayResult Float) (r : Popped) (fs′ : List Float) (us′ : List ℕ) (out′ : List Float) : Type 0 where
+  pub view : viewOf z (r .buffer) fs′ us′ ≡ model .after
+  pub samples : out′ ≡ model .answer .samples
+  pub took : r .taken ≡ model .answer .taken
+  pub drops : r .dropped ≡ model .answer .dropped
+  pub lacks : r .short ≡ model .answer .short
+
+-- a play: the buffer and the answer are the model's
+pub record PopDone (z : Sizes) (j : JitterBuffer) (fs : List Float) (us : List ℕ) (out : List Float) (r : Popped) (fs′ : List Float) (us′ : List ℕ) (out′ : List Float) : Type 0 where
+  pub played : PlayedAs z (play f0 (sizesOf z) (length out) (viewOf z j fs us)) r fs′ us′ out′
+  pub held : StaysHeld z (viewOf z j fs us) (viewOf z (r .buffer) fs′ us′)

@@ -1,5 +1,6 @@
 -- The model's buffer that the struct and its two lent parts hold: the waiting samples and the queue in the f32 part, the waiting sequences in the u32 part. Assumes nothing.
 use Prim.Native.Nat.{ℕ, zero, suc, _+_, _-_, _*_}
+use mathlib.Core.Bool.{Bool, true, false}
 use mathlib.Core.Option.{Option, none, some}
 use mathlib.Core.List.{List, [], _∷_}
 use lib.ListN.{getD}
@@ -18,6 +19,10 @@ use Rattle.jitter_buffer.specs.declared.FillStep.the-variants.{Moved, Co
 abbrev pub nextOf : NextSequence → Option ℕ
 nextOf NotStarted = none
 nextOf (Next s) = some s
+
+abbrev pub startedOf : NextSequence → Bool
+startedOf NotStarted = false
+startedOf (Next s) = true
 
 abbrev pub stepOf : FillStep → Step
 stepOf (Moved s) = Model.moved s

@@ -86,7 +86,7 @@ counters-held limit k w =
     (both-and (le-leb _ _ (w .resyncs))
     (both-and (le-leb _ _ (w .filled)) refl)))))))
 
-buffer-held : (z : Sizes) (limit : ℕ) (b : Buffer Float) → Kept z b → Within limit (b .counters) → bufferHeld z limit b ≡ true
+pub buffer-held : (z : Sizes) (limit : ℕ) (b : Buffer Float) → Kept z b → Within limit (b .counters) → bufferHeld z limit b ≡ true
 unfolding bufferHeld
 buffer-held z limit b k w =
     both-and (le-leb _ _ (k .waiting))
