@@ -25,7 +25,7 @@ use Rattle.sizes.specs.declared.Sizes.{Sizes}
 use Rattle.sizes.specs.View.{sizesOf, queueAt}
 use Rattle.jitter_buffer.specs.declared.JitterBuffer.{JitterBuffer}
 use Rattle.jitter_buffer.specs.View.{nextOf, packetsFrom, countersOf, viewOf}
-use Rattle.jitter_buffer.specs.Promises.{Lent, Ready, StaysHeld}
+use Rattle.jitter_buffer.specs.Promises.{Lent, Ready, StaysHeld, NextFits}
 use Rattle.jitter_buffer.proofs.Places.{place-ends, packets-length}
 
 -- ---- the order of the waiting packets
@@ -47,11 +47,6 @@ rises-from-zero [] e = tt
 rises-from-zero (p ∷ ps) e = (omega arith, rises p ps e)
 
 -- ---- before and after the start
-
--- a next sequence has 32 bits
-abbrev pub NextFits : Option ℕ → Type 0
-NextFits none = Unit {0}
-NextFits (some n) = n < 2 ^ 32
 
 record StartKept (z : Model.Sizes) (next : Option ℕ) (b : Buffer Float) : Type 0 where
   rising : RisingFrom (lowest next) (b .waiting)

@@ -7,3 +7,7 @@ pub mod HeldKept
 pub mod PlayView
 pub mod Plays
 pub mod Amounts
+pub mod Decoded
+pub mod StoreView
+pub mod PushView
+pub mod Pushes

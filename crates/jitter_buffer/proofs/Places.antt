@@ -66,9 +66,9 @@ pub queue-low : (z : Sizes) → sizesAllowed z ≡ true → queueAt z ≤ 135167
 unfolding queueAt
 queue-low z ok = waiting-samples-bound z ok
 
--- so do the packets from a place on
+-- the packets before a place and those from it on
+pub rest-sum : (packet taken n : ℕ) → taken ≤ n → taken * packet + (n - taken) * packet ≡ n * packet
+rest-sum packet taken n place = sym (add-mul taken (n - taken) packet) ∙ ap (λ (k : ℕ). k * packet) (omega arith)
+
 pub rest-ends : (z : Sizes) (taken n : ℕ) → taken ≤ n → n ≤ mostWaiting z → taken * z .packet + (n - taken) * z .packet ≤ queueAt z
-rest-ends z taken n place most =
-    let sum : taken * z .packet + (n - taken) * z .packet ≡ n * z .packet =
-    sym (add-mul taken (n - taken) (z .packet)) ∙ ap (λ (k : ℕ). k * z .packet) (omega arith) in
-    omega (arith, places-end z n most)
+rest-ends z taken n place most = omega (arith, rest-sum (z .packet) taken n place, places-end z n most)

@@ -27,11 +27,11 @@ use Rattle.jitter_buffer.specs.declared.NextSequence.{NextSequence}
 use Rattle.jitter_buffer.specs.declared.NextSequence.the-variants.{NotStarted, Next}
 use Rattle.jitter_buffer.specs.View.{nextOf, viewOf}
 use Rattle.jitter_buffer.specs.Fields.{playedFields, silencePopped}
-use Rattle.jitter_buffer.specs.Promises.{Lent, Ready, StaysHeld, FillCounts, CanFill, CanHandOut, HandedOut, PlayedAs, PopDone}
+use Rattle.jitter_buffer.specs.Promises.{Lent, Ready, StaysHeld, FillCounts, CanFill, CanHandOut, HandedOut, PlayedAs, PopDone, NextFits}
 use Rattle.jitter_buffer.proofs.Places.{packets-length}
 use Rattle.jitter_buffer.proofs.FillView.{queue-length}
 use Rattle.jitter_buffer.proofs.Turns.{queue-below}
-use Rattle.jitter_buffer.proofs.HeldKept.{NextFits, WordsFit, KeptWithin, view-kept, stays-held}
+use Rattle.jitter_buffer.proofs.HeldKept.{WordsFit, KeptWithin, view-kept, stays-held}
 use Rattle.jitter_buffer.proofs.PlayView.{handed-view, handed-samples, handed-taken, handed-short}
 
 -- ---- what is dropped

@@ -1,15 +1,16 @@
 -- What the functions of the crate ask, and what they promise. Assumes nothing.
-use Prim.Native.Nat.{ℕ, _+_, _-_, _*_, _^_, _≤_, _<_, min}
+use Prim.Native.Nat.{ℕ, _+_, _-_, _*_, _/_, _^_, _≤_, _<_, min}
 use mathlib.Core.Path.{_≡_}
-use mathlib.Core.Bool.{true}
+use mathlib.Core.Bool.{Bool, true, false}
+use mathlib.Core.Option.{Option, none, some}
 use mathlib.Core.List.{List}
-use lib.ListN.{length, replicate}
+use lib.ListN.{length, getD, replicate}
 use lib.Ieee.{Float}
 use Rattle.model.specs.Bytes.{part, placed}
 use Rattle.model.specs.Floats.{f0}
 use Rattle.areas.specs.Parts.{moved}
 use Rattle.model.specs.Sizes.{sizesAllowed, mostWaiting}
-use Rattle.model.specs.JitterBuffer.{Buffer, Played, PlayResult, buffered, reset, does, act, stopped, fill, playFilled, play}
+use Rattle.model.specs.JitterBuffer.{Buffer, Played, PlayResult, buffered, reset, does, act, stopped, fill, playFilled, play, isLate, push}
 use Rattle.model.proofs.FillStep.{Loose}
 use Rattle.model.specs.Receiver.{mostCalls, bufferHeld}
 use Rattle.sizes.specs.declared.Sizes.{Sizes}
@@ -18,7 +19,7 @@ use Rattle.jitter_buffer.specs.declared.JitterBuffer.{JitterBuffer}
 use Rattle.jitter_buffer.specs.declared.Popped.{Popped}
 use Rattle.jitter_buffer.specs.declared.Turn.{Turn}
 use Rattle.jitter_buffer.specs.declared.Turn.the-variants.{More, Done}
-use Rattle.jitter_buffer.specs.View.{viewFrom, viewOf}
+use Rattle.jitter_buffer.specs.View.{nextOf, packetOf, viewFrom, viewOf}
 use Rattle.jitter_buffer.specs.Fields.{playedFields}
 
 -- the two lent parts are long enough
@@ -147,3 +148,39 @@ pub record PlayedAs (z : Sizes) (model : PlayResult Float) (r : Popped) (fs′ :
 pub record PopDone (z : Sizes) (j : JitterBuffer) (fs : List Float) (us : List ℕ) (out : List Float) (r : Popped) (fs′ : List Float) (us′ : List ℕ) (out′ : List Float) : Type 0 where
   pub played : PlayedAs z (play f0 (sizesOf z) (length out) (viewOf z j fs us)) r fs′ us′ out′
   pub held : StaysHeld z (viewOf z j fs us) (viewOf z (r .buffer) fs′ us′)
+
+-- ---- push
+
+-- the place of a sequence among n that rise: behind the last that is below it
+pub record PlaceOf (us : List ℕ) (n s place : ℕ) : Type 0 where
+  pub inside : place ≤ n
+  pub below : 0 < place → getD us (place - 1) 0 < s
+  pub above : place < n → s ≤ getD us place 0
+
+-- a packet of the right size may be stored, and one more may wait
+pub record CanStore (z : Sizes) (j : JitterBuffer) (fs : List Float) (us payload : List ℕ) : Type 0 where
+  pub fill : CanFill z j fs us
+  pub room : j .«pending_len» + 1 ≤ mostWaiting (sizesOf z)
+  pub size : length payload / 2 ≡ z .packet
+  pub inserted : j .«packets_inserted» + 1 < 2 ^ 64
+
+-- a next sequence has 32 bits
+abbrev pub NextFits : Option ℕ → Type 0
+NextFits none = Unit {0}
+NextFits (some n) = n < 2 ^ 32
+
+-- what is told of a sequence's lateness, and of next itself
+pub record Lateness (j : JitterBuffer) (s : ℕ) (r : Bool) : Type 0 where
+  pub late : r ≡ isLate s (nextOf (j .«next_sequence»))
+  pub next : NextFits (nextOf (j .«next_sequence»))
+
+-- a packet of the right size that is not late may be settled
+pub record CanSettle (z : Sizes) (j : JitterBuffer) (fs : List Float) (us : List ℕ) (s : ℕ) (payload : List ℕ) : Type 0 where
+  pub store : CanStore z j fs us payload
+  pub inTime : isLate s (nextOf (j .«next_sequence»)) ≡ false
+  pub sequence : s < 2 ^ 32
+
+-- a push: the buffer is the model's
+pub record PushDone (z : Sizes) (j : JitterBuffer) (fs : List Float) (us : List ℕ) (s : ℕ) (payload : List ℕ) (r : JitterBuffer) (fs′ : List Float) (us′ : List ℕ) : Type 0 where
+  pub view : viewOf z r fs′ us′ ≡ push f0 (sizesOf z) (packetOf s payload) (viewOf z j fs us)
+  pub held : StaysHeld z (viewOf z j fs us) (viewOf z r fs′ us′)

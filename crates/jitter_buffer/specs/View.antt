@@ -6,6 +6,7 @@ use mathlib.Core.List.{List, [], _∷_}
 use lib.ListN.{getD}
 use lib.Ieee.{Float}
 use Rattle.model.specs.Bytes.{part}
+use Rattle.model.specs.Samples.{samplesOf}
 use Rattle.model.specs.JitterBuffer as Model
 use Rattle.model.specs.JitterBuffer.{Counters, Packet, Buffer, Step}
 use Rattle.sizes.specs.declared.Sizes.{Sizes}
@@ -63,3 +64,7 @@ viewFrom taken z j fs us =
 -- the buffer between calls
 abbrev pub viewOf : Sizes → JitterBuffer → List Float → List ℕ → Buffer Float
 viewOf z j fs us = viewFrom 0 z j fs us
+
+-- the packet that a sequence and a payload are
+abbrev pub packetOf : ℕ → List ℕ → Packet Float
+packetOf s payload = record { sequence = s; samples = samplesOf payload }

@@ -61,7 +61,7 @@ module _ {X : Type 0} (filler : X) (z : Sizes) where
   not-late s none h = omega arith
   not-late s (some n) h = ltb-false s n h
 
-  stored-keeps : (new : Packet X) (b : Buffer X) → PacketKept z new → isLate (new .sequence) (b .next) ≡ false → Loose z b → Loose z (stored new b)
+  pub stored-keeps : (new : Packet X) (b : Buffer X) → PacketKept z new → isLate (new .sequence) (b .next) ≡ false → Loose z b → Loose z (stored new b)
   unfolding stored
   stored-keeps new b p late l =
       record {
@@ -81,7 +81,7 @@ module _ {X : Type 0} (filler : X) (z : Sizes) where
       rw t (omega (arith, ap (λ (k : ℕ). z .packet * k) n)))
       (λ t. let n = length-insert-new new (b .waiting) t in rw t (omega (arith, ap (λ (k : ℕ). z .packet * k) n)))
 
-  stored-length : (new : Packet X) (b : Buffer X) → Loose z b → length (stored new b .waiting) ≤ length (b .waiting) + 1
+  pub stored-length : (new : Packet X) (b : Buffer X) → Loose z b → length (stored new b .waiting) ≤ length (b .waiting) + 1
   unfolding stored
   stored-length new b l =
       by-test (isWaiting (new .sequence) (b .waiting))
@@ -111,7 +111,7 @@ module _ {X : Type 0} (filler : X) (z : Sizes) where
       rw t (record { rising = e .0; kept = e .1; idle = earliest-idle ps wait }))
       (λ t. rw t (record { rising = r; kept = k; idle = leb-false (z .target) (z .packet * length ps) t }))
 
-  start-keeps : (b : Buffer X) → 1 ≤ z .target → Loose z b → Loose z (start z b) × Idle z (start z b .next) (start z b .waiting)
+  pub start-keeps : (b : Buffer X) → 1 ≤ z .target → Loose z b → Loose z (start z b) × Idle z (start z b .next) (start z b .waiting)
   unfolding start
   start-keeps b h l =
       let s = starts (b .next) (b .waiting) (b .queue) h (l .rising) (l .packets) (l .next) in

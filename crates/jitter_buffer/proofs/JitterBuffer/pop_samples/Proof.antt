@@ -2,7 +2,8 @@
 use mathlib.Core.Path.{_≡_, refl, sym, _∙_, ap}
 use native.Mathlib.Omega.{arith}
 use Rattle.jitter_buffer.specs.View.{nextOf}
-use Rattle.jitter_buffer.proofs.HeldKept.{NextFits, WordsFit}
+use Rattle.jitter_buffer.specs.Promises.{NextFits}
+use Rattle.jitter_buffer.proofs.HeldKept.{WordsFit}
 use Rattle.jitter_buffer.proofs.Plays.{ready-fill, pop-played, pop-silent}
 use borrow.Author.Needs.{needs}
 use Rattle.jitter_buffer.proofs.JitterBuffer.pop_samples.Statement.{statement}
