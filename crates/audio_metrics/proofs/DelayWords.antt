@@ -1,14 +1,14 @@
 -- The one-way delay in words of 64 bits: a difference that wraps and a sum that wraps keep the low 64 bits. Assumes nothing.
-use Prim.Native.Nat.{ℕ, zero, suc, _+_, _-_, _*_, _%_, _^_, _≤_, _<_}
+use Prim.Native.Nat.{ℕ, suc, _+_, _-_, _*_, _%_, _^_, _≤_, _<_}
 use native.Mathlib.Omega.{arith}
-use native.Mathlib.Nat.{mod-eq-of-lt, mod-add-mod, add-mod-mod, add-mul-mod-self-right, mod-lt}
-use mathlib.Core.Path.{_≡_, refl, sym, ap, _∙_}
-use mathlib.Core.Bool.{Bool, true, false, _&&_, false≢true}
+use native.Mathlib.Nat.{mod-eq-of-lt, mod-add-mod, add-mul-mod-self-right, mod-lt}
+use mathlib.Core.Path.{_≡_, sym, ap}
+use mathlib.Core.Bool.{true, false, false≢true}
 use mathlib.Core.Option.{Option, none, some}
-use lib.IntN.{ℤ, pos, negsuc, negℤ, natAbs, subℕ, _+ℤ_, _-ℤ_, +ℤ-assoc, +ℤ-comm, negℤ-+ℤ}
-use lib.Signed.{mag, leZ, ltZ, nonNeg}
-use lib.Dec.{T, leb, ltb}
-use borrow.Author.Tests.{leb-true, leb-false, le-leb, lt-leb, le-ltb, ltb-true, ltb-false}
+use lib.IntN.{ℤ, pos, negsuc, negℤ, natAbs, _+ℤ_, _-ℤ_, +ℤ-assoc, +ℤ-comm, negℤ-+ℤ}
+use lib.Signed.{mag, leZ, nonNeg}
+use lib.Dec.{T, leb}
+use borrow.Author.Tests.{leb-true, leb-false, le-ltb}
 use mir.Syntax.{w64}
 use mir.Val.{SFits}
 use Rattle.model.specs.Clock.{Timing, Clock, bits64, signed64, low64, oneWayOf, oneWayInRange}
@@ -80,21 +80,6 @@ natAbs-below (pos n) f = omega arith
 natAbs-below (negsuc n) f = f
 
 -- ---- the range of a delay
-
-pub below-range : (n : ℤ) → ltZ n (negsuc 999999999) ≡ true → oneWayInRange n ≡ false
-unfolding oneWayInRange
-below-range (pos n) h = absurd (false≢true h)
-below-range (negsuc n) h = rw (lt-leb n 999999999 (ltb-true 999999999 n h))
-
-pub above-range : (n : ℤ) → ltZ (pos 5000000000) n ≡ true → oneWayInRange n ≡ false
-unfolding oneWayInRange
-above-range (pos n) h = lt-leb n 5000000000 (ltb-true 5000000000 n h)
-above-range (negsuc n) h = absurd (false≢true h)
-
-pub in-range : (n : ℤ) → ltZ n (negsuc 999999999) ≡ false → ltZ (pos 5000000000) n ≡ false → oneWayInRange n ≡ true
-unfolding oneWayInRange
-in-range (pos n) l h = le-leb n 5000000000 (ltb-false 5000000000 n h)
-in-range (negsuc n) l h = rw (le-leb n 999999999 (ltb-false 999999999 n l))
 
 pub in-range-below : (n : ℤ) → oneWayInRange n ≡ true → mag n < 2 ^ 62
 unfolding oneWayInRange

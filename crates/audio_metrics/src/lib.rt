@@ -6,8 +6,9 @@ ghost use Prim.Native.Nat.{_<_, _≤_, _^_};
 ghost use mathlib.Core.Bool.{true};
 ghost use mathlib.Core.Option.{some};
 ghost use lib.IntN.{natAbs};
-ghost use Rattle.model.specs.Receiver.{clockHeld};
-ghost use Rattle.model.specs.Clock.{stepToward, leastAfter, passesGate, timingAfter, recordProbe, bits64, oneWayOf, oneWayAfter, recordOneWay, samplesMs, depthAfter, recordDepth, recordTransmit, inMs, oneWayMs, roundTripMs, offsetMs, depthMs, depthPeakMs};
+ghost use Rattle.model.specs.Receiver.{clockBound, offsetAllowed, timingHeld, oneWayHeld, clockHeld, probeAllowed, depthAllowed};
+ghost use Rattle.model.specs.Sizes.{between};
+ghost use Rattle.model.specs.Clock.{stepToward, leastAfter, passesGate, timingAfter, recordProbe, bits64, oneWayInRange, oneWayOf, oneWayAfter, recordOneWay, samplesMs, depthAfter, recordDepth, recordTransmit, inMs, oneWayMs, roundTripMs, offsetMs, depthMs, depthPeakMs};
 ghost use Rattle.audio_metrics.specs.Requires.{StepFits, ProbeFits, Probed, OneWayFits};
 ghost use Rattle.audio_metrics.specs.Views.{timingOf, knownOf, delayOf, depthKnown, depthOf, readingOf, clockOf};
 use std::num::wrapping_add_u64;
@@ -168,6 +169,80 @@ fn in_ms(ns: i64) -> f32
     floats::nearest_i64_to_f32(ns) / 1000000.0
 }
 
+// The bound of question 9, either way.
+fn offset_in_range(offset_ns: i64) -> bool
+    ensures { λ r. ⌜ r ≡ offsetAllowed «offset_ns» ⌝ }
+{
+    if -4611686018427387903 <= offset_ns {
+        return offset_ns <= 4611686018427387903;
+    }
+    false
+}
+
+// Question 9 of a probe. A round trip of 0 or less is let through, and then ignored.
+pub fn probe_in_range(offset_ns: i64, rtt_ns: i64) -> bool
+    ensures { λ r. ⌜ r ≡ probeAllowed «offset_ns» «rtt_ns» ⌝ }
+{
+    if offset_in_range(offset_ns) {
+        return rtt_ns <= 4611686018427387903;
+    }
+    false
+}
+
+// Question 9 of a depth.
+pub fn depth_in_range(samples: usize) -> bool
+    ensures { λ r. ⌜ r ≡ depthAllowed samples ⌝ }
+{
+    samples <= 16777216
+}
+
+// A round trip that was taken is above 0.
+fn rtt_could_be_held(rtt: u64) -> bool
+    ensures { λ r. ⌜ r ≡ between 1 clockBound rtt ⌝ }
+{
+    if 1 <= rtt {
+        return rtt <= 4611686018427387903;
+    }
+    false
+}
+
+fn timing_could_be_held(timing: Timing) -> bool
+    ensures { λ r. ⌜ r ≡ timingHeld (timingOf timing) ⌝ }
+{
+    let Timing::Known(t) = timing else {
+        return true;
+    };
+    if offset_in_range(t.offset_ns) {
+        if rtt_could_be_held(t.rtt_ns) {
+            return rtt_could_be_held(t.min_rtt_ns);
+        }
+    }
+    false
+}
+
+// The delays that are taken: −1 s to 5 s.
+fn one_way_in_range(one_way_ns: i64) -> bool
+    ensures { λ r. ⌜ r ≡ oneWayInRange «one_way_ns» ⌝ }
+{
+    if -1_000_000_000 <= one_way_ns {
+        return one_way_ns <= 5_000_000_000;
+    }
+    false
+}
+
+// A delay is there only with an offset.
+fn one_way_could_be_held(timing: Timing, one_way: OneWay) -> bool
+    ensures { λ r. ⌜ r ≡ oneWayHeld (timingOf timing) (delayOf «one_way») ⌝ }
+{
+    let OneWay::Known(one_way_ns) = one_way else {
+        return true;
+    };
+    let Timing::Known(_) = timing else {
+        return false;
+    };
+    one_way_in_range(one_way_ns)
+}
+
 // A reading that is not there before its first number.
 pub enum Reading {
     Unknown,
@@ -175,6 +250,18 @@ pub enum Reading {
 }
 
 impl AudioMetrics {
+    // Question 3 of a clock: could a run of calls have left these numbers?
+    pub fn could_be_held(self) -> bool
+        ensures { λ r. ⌜ r ≡ clockHeld (clockOf self) ⌝ }
+    {
+        let timing = self.timing;
+        let one_way = self.one_way;
+        if timing_could_be_held(timing) {
+            return one_way_could_be_held(timing, one_way);
+        }
+        false
+    }
+
     // Feeds one clock-offset probe. A round trip of 0 or less is ignored.
     pub fn record_probe(self, offset_ns: i64, rtt_ns: i64) -> AudioMetrics
         requires { ⌜ Probed (clockOf self) «offset_ns» «rtt_ns» ⌝ }
@@ -211,23 +298,20 @@ impl AudioMetrics {
             return self;
         };
         let new = one_way_of(recv_ns, send_ns, t.offset_ns);
-        if new < -1_000_000_000 {
-            return self;
+        if one_way_in_range(new) {
+            let next = one_way_after(one_way, new);
+            return AudioMetrics {
+                timing,
+                one_way: OneWay::Known(next),
+                jitter,
+                conceals: self.conceals,
+                late: self.late,
+                overflow: self.overflow,
+                resyncs: self.resyncs,
+                tx_ring_peak_ms: self.tx_ring_peak_ms,
+            };
         }
-        if 5_000_000_000 < new {
-            return self;
-        }
-        let next = one_way_after(one_way, new);
-        AudioMetrics {
-            timing,
-            one_way: OneWay::Known(next),
-            jitter,
-            conceals: self.conceals,
-            late: self.late,
-            overflow: self.overflow,
-            resyncs: self.resyncs,
-            tx_ring_peak_ms: self.tx_ring_peak_ms,
-        }
+        self
     }
 
     // Publishes the depth of the receive buffer with its four counts.
