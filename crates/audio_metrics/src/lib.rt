@@ -1,6 +1,8 @@
 // Clock offset, round trip, one-way delay and buffer depths, as rigflow-client/src/audio_metrics.rs keeps them.
 // The state goes in by value and comes back. A number that is not there yet is a case of its own.
 // The functions take what the receiver's questions let through: a held clock, and numbers in the range of question 9.
+mod words;
+
 ghost use mathlib.Core.Path.{_≡_};
 ghost use Prim.Native.Nat.{_<_, _≤_, _^_};
 ghost use mathlib.Core.Bool.{true};
