@@ -1,6 +1,7 @@
 // Clock offset, round trip, one-way delay and buffer depths, as rigflow-client/src/audio_metrics.rs keeps them.
 // The state goes in by value and comes back. A number that is not there yet is a case of its own.
 // The functions take what the receiver's questions let through: a held clock, and numbers in the range of question 9.
+pub mod exports;
 mod words;
 
 ghost use mathlib.Core.Path.{_≡_};
@@ -10,7 +11,7 @@ ghost use mathlib.Core.Option.{some};
 ghost use lib.IntN.{natAbs};
 ghost use Rattle.model.specs.Receiver.{clockBound, offsetAllowed, timingHeld, oneWayHeld, clockHeld, probeAllowed, depthAllowed};
 ghost use Rattle.model.specs.Sizes.{between};
-ghost use Rattle.model.specs.Clock.{stepToward, leastAfter, passesGate, timingAfter, recordProbe, bits64, oneWayInRange, oneWayOf, oneWayAfter, recordOneWay, samplesMs, depthAfter, recordDepth, recordTransmit, inMs, oneWayMs, roundTripMs, offsetMs, depthMs, depthPeakMs};
+ghost use Rattle.model.specs.Clock.{freshClock, stepToward, leastAfter, passesGate, timingAfter, recordProbe, bits64, oneWayInRange, oneWayOf, oneWayAfter, recordOneWay, samplesMs, depthAfter, recordDepth, recordTransmit, inMs, oneWayMs, roundTripMs, offsetMs, depthMs, depthPeakMs};
 ghost use Rattle.audio_metrics.specs.Requires.{StepFits, ProbeFits, Probed, OneWayFits};
 ghost use Rattle.audio_metrics.specs.Views.{timingOf, knownOf, delayOf, depthKnown, depthOf, readingOf, clockOf};
 use std::num::wrapping_add_u64;
@@ -252,6 +253,22 @@ pub enum Reading {
 }
 
 impl AudioMetrics {
+    // Before the first number.
+    pub fn new() -> AudioMetrics
+        ensures { λ r. ⌜ clockOf r ≡ freshClock ⌝ }
+    {
+        AudioMetrics {
+            timing: Timing::Unknown,
+            one_way: OneWay::Unknown,
+            jitter: Jitter::Unknown,
+            conceals: 0,
+            late: 0,
+            overflow: 0,
+            resyncs: 0,
+            tx_ring_peak_ms: 0.0,
+        }
+    }
+
     // Question 3 of a clock: could a run of calls have left these numbers?
     pub fn could_be_held(self) -> bool
         ensures { λ r. ⌜ r ≡ clockHeld (clockOf self) ⌝ }
