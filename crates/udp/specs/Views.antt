@@ -1,0 +1,14 @@
+-- The model's counts, display and row, read out of the crate's values. Assumes nothing.
+use Prim.Native.Nat.{ℕ}
+use mathlib.Core.Option.{Option, none, some}
+use Rattle.model.specs.Counts as Counts
+use Rattle.udp.specs.declared.LastSequence.{LastSequence}
+use Rattle.udp.specs.declared.LastSequence.the-variants as Last
+use Rattle.udp.specs.declared.StreamCounts.{StreamCounts}
+
+abbrev pub lastOf : LastSequence → Option ℕ
+lastOf Last.Unknown = none
+lastOf (Last.Known s) = some s
+
+abbrev pub countsOf : StreamCounts → Counts.StreamCounts
+countsOf c = record { packets = c .packets; dropped = c .dropped; late = c .late; last = lastOf (c .last) }
