@@ -198,17 +198,23 @@ fn clock_calls(t: &[u8], tally: Tally) -> Tally {
 }
 
 // Every call of the large tape, by its place.
-pub fn every_field(t: &mut [u8], tally: Tally) -> Tally {
-    let place = every_call(t);
-    let now = numbers(tally, b"words of the large tape", place as u64, 57);
+fn fields(t: &[u8], tally: Tally) -> Tally {
     if t.len() < 228 {
-        return now;
+        return tally;
     }
-    let now = said(now, b"setup", is_setup(reader::setup_of(&t[0..228])));
-    let now = channel_calls(&t[0..228], now);
-    let now = clock_calls(&t[0..228], now);
-    let place = small(t);
-    numbers(now, b"words of the small tape", place as u64, 21)
+    let whole = &t[0..228];
+    let now = said(tally, b"setup", is_setup(reader::setup_of(whole)));
+    let now = channel_calls(whole, now);
+    clock_calls(whole, now)
+}
+
+// The two tapes as they were written.
+pub fn every_field(t: &mut [u8], tally: Tally) -> Tally {
+    let large = every_call(t);
+    let now = numbers(tally, b"words of the large tape", large as u64, 57);
+    let now = fields(t, now);
+    let less = small(t);
+    numbers(now, b"words of the small tape", less as u64, 21)
 }
 
 fn refused_at(p: Put) -> u64 {
