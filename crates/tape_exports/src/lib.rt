@@ -1,6 +1,15 @@
 // The reader and the writer for programs in other languages: an answer is a number, and the fields of a call go into a lent slice.
-use tape::{Checked, DepthCounts, Estimates, Found, Put, Settings, SetupRead, Side, Sizes};
-use tape::{reader, writer};
+use tape::Checked;
+use tape::DepthCounts;
+use tape::Estimates;
+use tape::Found;
+use tape::Put;
+use tape::Settings;
+use tape::SetupRead;
+use tape::Side;
+use tape::Sizes;
+use tape::reader;
+use tape::writer;
 
 fn put_at(out: &mut [u64], i: usize, n: u64) {
     if i < out.len() {
@@ -55,19 +64,41 @@ fn put_counts(out: &mut [u64], k: DepthCounts) {
 fn put_found(out: &mut [u64], f: Found) {
     match f {
         Found::Datagram { at, len, next } => put_four(out, 1, next, at as u64, len as u64),
-        Found::Play { side, samples, next } => put_four(out, 2, next, side_number(side), samples as u64),
+        Found::Play {
+            side,
+            samples,
+            next,
+        } => put_four(out, 2, next, side_number(side), samples as u64),
         Found::Reset { side, next } => put_four(out, 3, next, side_number(side), 0),
-        Found::Set { side, settings, next } => {
+        Found::Set {
+            side,
+            settings,
+            next,
+        } => {
             put_four(out, 4, next, side_number(side), 0);
             put_settings(out, settings);
         }
-        Found::Probe { t1, t2, t3, t4, next } => {
+        Found::Probe {
+            t1,
+            t2,
+            t3,
+            t4,
+            next,
+        } => {
             put_four(out, 5, next, t1, t2);
             put_at(out, 4, t3);
             put_at(out, 5, t4);
         }
-        Found::OneWay { receive, send, next } => put_four(out, 6, next, receive, send),
-        Found::Depth { samples, counts, next } => {
+        Found::OneWay {
+            receive,
+            send,
+            next,
+        } => put_four(out, 6, next, receive, send),
+        Found::Depth {
+            samples,
+            counts,
+            next,
+        } => {
             put_four(out, 7, next, samples as u64, 0);
             put_counts(out, counts);
         }
@@ -107,7 +138,13 @@ pub extern "C" fn tape_setup(tape: &[u8], out: &mut [u64]) -> u64 {
     let s = reader::setup_of(tape);
     match s {
         SetupRead::Found(x) => {
-            put_four(out, x.packet as u64, x.target as usize, x.max as u64, x.bins as u64);
+            put_four(
+                out,
+                x.packet as u64,
+                x.target as usize,
+                x.max as u64,
+                x.bins as u64,
+            );
             put_at(out, 4, x.width as u64);
             put_at(out, 5, x.height as u64);
             put_estimates(out, 6, x.a);
@@ -143,7 +180,16 @@ pub extern "C" fn tape_put_reset(target: &mut [u8], place: usize, side: u64) -> 
 }
 
 #[no_mangle]
-pub extern "C" fn tape_put_set(target: &mut [u8], place: usize, side: u64, adaptive: bool, top: u32, range: u32, zoom: u32, smoothing: u32) -> u64 {
+pub extern "C" fn tape_put_set(
+    target: &mut [u8],
+    place: usize,
+    side: u64,
+    adaptive: bool,
+    top: u32,
+    range: u32,
+    zoom: u32,
+    smoothing: u32,
+) -> u64 {
     let x = Settings {
         adaptive,
         top,
@@ -155,17 +201,37 @@ pub extern "C" fn tape_put_set(target: &mut [u8], place: usize, side: u64, adapt
 }
 
 #[no_mangle]
-pub extern "C" fn tape_put_probe(target: &mut [u8], place: usize, t1: u64, t2: u64, t3: u64, t4: u64) -> u64 {
+pub extern "C" fn tape_put_probe(
+    target: &mut [u8],
+    place: usize,
+    t1: u64,
+    t2: u64,
+    t3: u64,
+    t4: u64,
+) -> u64 {
     answer(writer::put_probe(target, place, t1, t2, t3, t4))
 }
 
 #[no_mangle]
-pub extern "C" fn tape_put_one_way(target: &mut [u8], place: usize, receive: u64, send: u64) -> u64 {
+pub extern "C" fn tape_put_one_way(
+    target: &mut [u8],
+    place: usize,
+    receive: u64,
+    send: u64,
+) -> u64 {
     answer(writer::put_one_way(target, place, receive, send))
 }
 
 #[no_mangle]
-pub extern "C" fn tape_put_depth(target: &mut [u8], place: usize, samples: usize, conceals: u64, late: u64, overflow: u64, resyncs: u64) -> u64 {
+pub extern "C" fn tape_put_depth(
+    target: &mut [u8],
+    place: usize,
+    samples: usize,
+    conceals: u64,
+    late: u64,
+    overflow: u64,
+    resyncs: u64,
+) -> u64 {
     let k = DepthCounts {
         conceals,
         late,
@@ -183,4 +249,42 @@ pub extern "C" fn tape_put_transmit_depth(target: &mut [u8], place: usize, sampl
 #[no_mangle]
 pub extern "C" fn tape_put_end(target: &mut [u8], place: usize) -> u64 {
     answer(writer::put_end(target, place))
+}
+
+#[no_mangle]
+pub extern "C" fn tape_put_setup(
+    target: &mut [u8],
+    place: usize,
+    packet: usize,
+    play: usize,
+    max: usize,
+    bins: usize,
+    width: usize,
+    height: usize,
+    a1: u32,
+    a2: u32,
+    a3: u32,
+    b1: u32,
+    b2: u32,
+    b3: u32,
+) -> u64 {
+    let z = Sizes {
+        packet,
+        target: play,
+        max,
+        bins,
+        width,
+        height,
+    };
+    let a = Estimates {
+        top: a1,
+        floor: a2,
+        range: a3,
+    };
+    let b = Estimates {
+        top: b1,
+        floor: b2,
+        range: b3,
+    };
+    answer(writer::put_setup(target, place, z, a, b))
 }
