@@ -1,14 +1,11 @@
 -- `tape_vectors::damage::each_cut` is safe and ends: the tape keeps its length, and the bytes that are left are fewer each turn. Assumes nothing.
-use borrow.Author.Needs.{needs}
-use lib.ListN.{length}
-use native.Mathlib.Omega.{arith}
-use mathlib.Core.Path.{_≡_, refl}
 use Prim.Native.Nat.{_-_}
+use mathlib.Core.Path.{_≡_, refl}
+use native.Mathlib.Omega.{arith}
+use lib.ListN.{length}
+use borrow.Author.Needs.{needs}
 use Rattle.tape_vectors.proofs.damage.each_cut.Statement.{statement}
 use Rattle.tape_vectors.proofs.damage.each_cut.Tie as tie
-use Rattle.tape_vectors.proofs.damage.each_cut.Reads as reads
-use Rattle.tape_vectors.proofs.damage.each_cut.Lts as lts
-use Rattle.tape_vectors.proofs.damage.cut.Reads as cut-reads
 
 abbrev Inv-loop : tie.InvT-loop
 Inv-loop t₀ now₀ n₀ t now n = length t ≡ length t₀
@@ -16,31 +13,24 @@ Inv-loop t₀ now₀ n₀ t now n = length t ≡ length t₀
 abbrev μ-loop : tie.MeasureT-loop
 μ-loop t₀ now₀ n₀ t now n = 84 - n
 
--- src/damage.rt:106:5
 loop-holds : tie.Need-loop-holds Inv-loop μ-loop
 loop-holds c = refl
 
--- src/damage.rt:107:9
 cut-requires : tie.Need-cut-requires Inv-loop μ-loop
 cut-requires c κs = search needs
 
--- src/damage.rt:108:9
 add-n : tie.Need-add-n Inv-loop μ-loop
 add-n c = omega arith
 
--- src/damage.rt:106:5
 loop-less : tie.Need-loop-less Inv-loop μ-loop
 loop-less c = omega arith
 
--- src/damage.rt:106:5
 loop-again : tie.Need-loop-again Inv-loop μ-loop
 loop-again c = omega arith
 
--- src/damage.rt:103:1
 same-length : tie.Need-same-length Inv-loop μ-loop
 same-length c = c .before .loop .inv
 
--- src/damage.rt:103:1
 returns : tie.Need-returns Inv-loop μ-loop
 returns c = search needs
 
