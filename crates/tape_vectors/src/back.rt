@@ -7,7 +7,6 @@ use crate::sample::after;
 use crate::sample::every_call;
 use crate::sample::settings;
 use crate::sample::small;
-use tape::Checked;
 use tape::DepthCounts;
 use tape::Found;
 use tape::Put;
