@@ -11,3 +11,4 @@ pub mod Decoded
 pub mod StoreView
 pub mod PushView
 pub mod Pushes
+pub mod Asked

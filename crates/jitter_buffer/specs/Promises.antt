@@ -1,10 +1,11 @@
 -- What the functions of the crate ask, and what they promise. Assumes nothing.
 use Prim.Native.Nat.{ℕ, _+_, _-_, _*_, _/_, _^_, _≤_, _<_, min}
 use mathlib.Core.Path.{_≡_}
-use mathlib.Core.Bool.{Bool, true, false}
+use mathlib.Core.Bool.{Bool, true, false, _&&_}
 use mathlib.Core.Option.{Option, none, some}
 use mathlib.Core.List.{List}
 use lib.ListN.{length, getD, replicate}
+use lib.Dec.{leb}
 use lib.Ieee.{Float}
 use Rattle.model.specs.Bytes.{part, placed}
 use Rattle.model.specs.Floats.{f0}
@@ -184,3 +185,11 @@ pub record CanSettle (z : Sizes) (j : JitterBuffer) (fs : List Float) (us : List
 pub record PushDone (z : Sizes) (j : JitterBuffer) (fs : List Float) (us : List ℕ) (s : ℕ) (payload : List ℕ) (r : JitterBuffer) (fs′ : List Float) (us′ : List ℕ) : Type 0 where
   pub view : viewOf z r fs′ us′ ≡ push f0 (sizesOf z) (packetOf s payload) (viewOf z j fs us)
   pub held : StaysHeld z (viewOf z j fs us) (viewOf z r fs′ us′)
+
+-- ---- question 3
+
+-- the answer is the model's for allowed sizes and long enough parts, whatever the samples are, and else no
+abbrev pub HeldAsked : Sizes → JitterBuffer → List Float → List ℕ → ℕ → Bool → Type 0
+HeldAsked z j fs us calls r =
+    queueAt (sizesOf z) + (z .target + z .packet) ≤ length fs
+    → r ≡ sizesAllowed (sizesOf z) && (leb (mostWaiting (sizesOf z)) (length us) && bufferHeld (sizesOf z) (calls * mostCalls) (viewOf z j fs us))

@@ -1,6 +1,5 @@
 -- The model's buffer that the struct and its two lent parts hold: the waiting samples and the queue in the f32 part, the waiting sequences in the u32 part. Assumes nothing.
 use Prim.Native.Nat.{ℕ, zero, suc, _+_, _-_, _*_}
-use mathlib.Core.Bool.{Bool, true, false}
 use mathlib.Core.Option.{Option, none, some}
 use mathlib.Core.List.{List, [], _∷_}
 use lib.ListN.{getD}
@@ -21,10 +20,6 @@ abbrev pub nextOf : NextSequence → Option ℕ
 nextOf NotStarted = none
 nextOf (Next s) = some s
 
-abbrev pub startedOf : NextSequence → Bool
-startedOf NotStarted = false
-startedOf (Next s) = true
-
 abbrev pub stepOf : FillStep → Step
 stepOf (Moved s) = Model.moved s
 stepOf (Concealed s) = Model.concealed s
@@ -35,6 +30,11 @@ unfoldable pub packetsFrom : {X : Type 0} → ℕ → ℕ → ℕ → List X →
 packetsFrom packet k zero fs us = []
 packetsFrom packet k (suc n) fs us =
     record { sequence = getD us k 0; samples = part (k * packet) packet fs } ∷ packetsFrom packet (suc k) n fs us
+
+-- the n sequences from place k on
+unfoldable pub wordsFrom : ℕ → ℕ → List ℕ → List ℕ
+wordsFrom k zero us = []
+wordsFrom k (suc n) us = getD us k 0 ∷ wordsFrom (suc k) n us
 
 abbrev pub countersOf : JitterBuffer → Counters
 countersOf j =

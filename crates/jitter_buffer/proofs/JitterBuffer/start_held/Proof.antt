@@ -1,0 +1,54 @@
+-- `jitter_buffer::JitterBuffer::start_held` meets its contract. Assumes nothing.
+use mathlib.Core.Path.{_≡_, refl, sym, _∙_, ap}
+use native.Mathlib.Omega.{arith}
+use native.Mathlib.Nat.{mul-comm}
+use borrow.Author.Tests.{eq-eqb, ne-eqb}
+use Rattle.jitter_buffer.specs.Fields.{nextAsked}
+use Rattle.jitter_buffer.proofs.Places.{places-end, queue-low}
+use borrow.Author.Needs.{needs}
+use Rattle.jitter_buffer.proofs.JitterBuffer.start_held.Statement.{statement}
+use Rattle.jitter_buffer.proofs.JitterBuffer.start_held.Tie as tie
+
+enum-told : tie.Need-enum-told
+enum-told c = search needs
+
+mul-result : tie.Need-mul-result
+mul-result c =
+    let g = c .before .before .before .before .before .before .args in
+    let p = c .before .before .before .before .before .before .pre .0 in
+    omega (arith, places-end _ _ (p .waiting), queue-low _ (p .allowed), mul-comm (g .z .packet) (g .self .«pending_len»))
+
+enum-known-next : tie.Need-enum-known-next
+enum-known-next c = search needs
+
+shared-slice-read-result : tie.Need-shared-slice-read-result
+shared-slice-read-result c = search needs
+
+returns : tie.Need-returns
+unfolding nextAsked
+returns c = rw (c .before .before .before .before .before .enum-told .given .1, eq-eqb _ _ (c .before .before .before .if1 .taken))
+
+returns-2 : tie.Need-returns-2
+unfolding nextAsked
+returns-2 c = rw (c .before .before .enum-told .given .1, ne-eqb _ _ (c .if1 .left))
+
+returns-3 : tie.Need-returns-3
+unfolding nextAsked
+returns-3 c = rw (c .before .before .before .next .given .1, eq-eqb _ _ (c .if2 .taken))
+
+returns-4 : tie.Need-returns-4
+unfolding nextAsked
+returns-4 c = rw (c .before .before .before .before .next .given .1, ne-eqb _ _ (c .before .if2 .left))
+
+pub start-held-spec : {M : Type 1} → statement M
+start-held-spec =
+    tie.close
+    (tie.spec
+    enum-told
+    mul-result
+    enum-known-next
+    shared-slice-read-result
+    returns
+    returns-2
+    returns-3
+    returns-4)

@@ -1,0 +1,89 @@
+-- `jitter_buffer::rises` meets its contract. The loop's invariant: the sequences from i on rise. Assumes nothing.
+use mathlib.Core.Path.{_≡_, refl, sym, _∙_, ap}
+use native.Mathlib.Omega.{arith}
+use mathlib.Core.Bool.{true}
+use Prim.Native.Nat.{ℕ, _-_, _<_, _≤_}
+use native.Mathlib.Nat.{sub-zero}
+use Rattle.model.specs.Receiver.{strictlyRising}
+use Rattle.jitter_buffer.specs.View.{wordsFrom}
+use Rattle.jitter_buffer.proofs.Asked.{unzero, rising-none, rising-one, falls-short, rises-more}
+use Rattle.jitter_buffer.proofs.rises.Statement.{statement}
+use Rattle.jitter_buffer.proofs.rises.Tie as tie
+
+abbrev Inv-loop : tie.InvT-loop
+Inv-loop us n i₀ i = (i < n) × (strictlyRising (wordsFrom i (n - i) us) ≡ true)
+
+abbrev μ-loop : tie.MeasureT-loop
+μ-loop us n i₀ i = i
+
+returns : tie.Need-returns Inv-loop μ-loop
+returns c =
+    let g = c .before .args in
+    rw (c .if1 .taken) (rising-none (g .us .now) 0)
+
+sub-i : tie.Need-sub-i Inv-loop μ-loop
+sub-i c = omega (arith, unzero (c .before .args .n) (c .if1 .left))
+
+loop-holds : tie.Need-loop-holds Inv-loop μ-loop
+loop-holds c =
+    let g = c .before .args in
+    let one : g .n - (g .n - 1) ≡ 1 = omega (arith, unzero (g .n) (c .if1 .left)) in
+    (omega (arith, unzero (g .n) (c .if1 .left)), rw one (rising-one (g .us .now) (g .n - 1)))
+
+mul-if2 : tie.Need-mul-if2 Inv-loop μ-loop
+mul-if2 c = omega (arith, c .before .before .before .good .0 .1)
+
+shared-slice-read-if2 : tie.Need-shared-slice-read-if2 Inv-loop μ-loop
+shared-slice-read-if2 c = omega arith
+
+sub-if2 : tie.Need-sub-if2 Inv-loop μ-loop
+sub-if2 c = omega arith
+
+mul-if2-2 : tie.Need-mul-if2-2 Inv-loop μ-loop
+mul-if2-2 c = omega arith
+
+shared-slice-read-if2-2 : tie.Need-shared-slice-read-if2-2 Inv-loop μ-loop
+shared-slice-read-if2-2 c = omega arith
+
+returns-2 : tie.Need-returns-2 Inv-loop μ-loop
+returns-2 c =
+    let g = c .before .before .before .before .before .before .args in
+    let l = c .before .before .before .before .loop in
+    falls-short (g .us .now) (g .n) (l .i) (omega arith) (omega arith) (c .if2 .taken)
+
+sub-i-2 : tie.Need-sub-i-2 Inv-loop μ-loop
+sub-i-2 c = omega arith
+
+loop-less : tie.Need-loop-less Inv-loop μ-loop
+loop-less c = omega arith
+
+loop-again : tie.Need-loop-again Inv-loop μ-loop
+loop-again c =
+    let g = c .before .before .before .before .before .before .args in
+    let l = c .before .before .before .before .loop in
+    (omega arith, rises-more (g .us .now) (g .n) (l .i) (omega arith) (omega arith) (c .if2 .left) (l .inv .1))
+
+returns-3 : tie.Need-returns-3 Inv-loop μ-loop
+returns-3 c =
+    let none : c .before .loop .i ≡ 0 = omega arith in
+    sym (rw (none, sub-zero) at (c .before .loop .inv .1))
+
+pub rises-spec : {M : Type 1} → statement M
+rises-spec =
+    tie.close
+    (tie.spec
+    Inv-loop
+    μ-loop
+    returns
+    sub-i
+    loop-holds
+    mul-if2
+    shared-slice-read-if2
+    sub-if2
+    mul-if2-2
+    shared-slice-read-if2-2
+    returns-2
+    sub-i-2
+    loop-less
+    loop-again
+    returns-3)
