@@ -1,1 +1,2 @@
 pub mod Smoothing
+pub mod Adaptive

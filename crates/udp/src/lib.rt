@@ -6,11 +6,25 @@ ghost use mathlib.Core.List.{zipWith};
 ghost use lib.ListN.{length, take};
 ghost use Rattle.model.specs.Bytes.{placed};
 ghost use Rattle.model.specs.Counts.{counted};
-ghost use Rattle.model.specs.Scaling.{smoothed, smoothingWeight, smoothingAfter};
+ghost use Rattle.model.specs.Scaling.{smoothed, smoothingAfter, estimated, estimatesToward, displayAfter, shownTop, shownRange};
 ghost use Rattle.spectrum_utils.specs.Promises.{Updated};
+ghost use Rattle.spectrum_utils.specs.Estimates.{RowFits};
 ghost use Rattle.udp.specs.Requires.{CountsFit};
-ghost use Rattle.udp.specs.Views.{countsOf};
+ghost use Rattle.udp.specs.Views.{countsOf, displayOf};
+use spectrum_utils::FloorAndTop;
+use spectrum_utils::RowEstimate;
 use std::num::wrapping_add_u32;
+
+// How fast the estimates follow a row.
+const ADAPTIVE_NORMALIZATION_ALPHA: f32 = 0.05;
+
+// What shows above the estimated top.
+const ADAPTIVE_TOP_HEADROOM_DB: f32 = 3.0;
+
+// The range that the estimates give is kept between these.
+const ADAPTIVE_MIN_RANGE_DB: f32 = 30.0;
+
+const ADAPTIVE_MAX_RANGE_DB: f32 = 100.0;
 
 // The last sequence of a stream, if there was one.
 pub enum LastSequence {
@@ -97,4 +111,86 @@ fn move_toward(smooth: &mut [f32], row: &[f32], w: f32)
         smooth[i] = smooth[i] + w * (row[i] - smooth[i]);
         i += 1;
     }
+}
+
+// Display settings and running estimates of a channel.
+pub struct Display {
+    pub adaptive: bool,
+    pub top: f32,
+    pub range: f32,
+    pub zoom: f32,
+    pub smoothing: f32,
+    pub top_estimate: f32,
+    pub floor_estimate: f32,
+    pub range_estimate: f32,
+}
+
+// With adaptive on, the estimates follow a row that has finite values. With it off nothing is worked out. What `work`
+// holds afterwards is free.
+pub fn update_adaptive_waterfall_display(
+    display: Display,
+    row_db: &[f32],
+    work: &mut [f32],
+) -> Display
+    requires { ⌜ RowFits (length (now «row_db»)) (length (now work)) ⌝ }
+    ensures { λ r. ⌜ displayOf r ≡ displayAfter (now («row_db» .entry)) (displayOf display) ⌝ }
+{
+    if !display.adaptive {
+        return display;
+    }
+    let estimate = spectrum_utils::estimate_row_floor_and_top_db(row_db, work);
+    let RowEstimate::Levels(levels) = estimate else {
+        return display;
+    };
+    estimates_toward(display, levels)
+}
+
+// One estimate moved toward a row's value.
+fn estimated(old: f32, new: f32) -> f32
+    ensures { λ r. ⌜ r ≡ estimated old new ⌝ }
+{
+    (1.0 - ADAPTIVE_NORMALIZATION_ALPHA) * old + ADAPTIVE_NORMALIZATION_ALPHA * new
+}
+
+// The estimates moved toward a row's floor and top.
+fn estimates_toward(display: Display, levels: FloorAndTop) -> Display
+    ensures { λ r. ⌜ displayOf r ≡ estimatesToward (levels .floor) (levels .top) (displayOf display) ⌝ }
+{
+    let top = estimated(display.top_estimate, levels.top);
+    let floor = estimated(display.floor_estimate, levels.floor);
+    let range = floats::clamp(
+        top + ADAPTIVE_TOP_HEADROOM_DB - floor,
+        ADAPTIVE_MIN_RANGE_DB,
+        ADAPTIVE_MAX_RANGE_DB,
+    );
+    Display {
+        adaptive: display.adaptive,
+        top: display.top,
+        range: display.range,
+        zoom: display.zoom,
+        smoothing: display.smoothing,
+        top_estimate: top,
+        floor_estimate: floor,
+        range_estimate: range,
+    }
+}
+
+// The top that a row is drawn with.
+pub fn shown_top(display: Display) -> f32
+    ensures { λ r. ⌜ r ≡ shownTop (displayOf display) ⌝ }
+{
+    if display.adaptive {
+        return display.top_estimate + ADAPTIVE_TOP_HEADROOM_DB;
+    }
+    display.top
+}
+
+// The range that a row is drawn with.
+pub fn shown_range(display: Display) -> f32
+    ensures { λ r. ⌜ r ≡ shownRange (displayOf display) ⌝ }
+{
+    if display.adaptive {
+        return display.range_estimate;
+    }
+    display.range
 }
