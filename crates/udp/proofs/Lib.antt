@@ -1,2 +1,6 @@
 pub mod Smoothing
 pub mod Adaptive
+pub mod FloatBytes
+pub mod Prefix
+pub mod RowStore
+pub mod WellFormed

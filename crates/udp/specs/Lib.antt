@@ -1,2 +1,3 @@
 pub mod Requires
 pub mod Views
+pub mod Rows

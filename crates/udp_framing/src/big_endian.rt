@@ -11,7 +11,7 @@ pub(crate) fn read_u8(packet: &[u8], at: usize) -> u8
     packet[at]
 }
 
-pub(crate) fn read_u16(packet: &[u8], at: usize) -> u16
+pub fn read_u16(packet: &[u8], at: usize) -> u16
     requires { ⌜ at + 2 ≤ length (now packet) ⌝ }
     ensures { λ r. ⌜ r ≡ bigEndianAt at 2 (now (packet .entry)) ⌝ }
 {

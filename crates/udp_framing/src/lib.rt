@@ -1,6 +1,6 @@
 // Framing of datagrams: the media header, the send time of an audio datagram, the time-sync packets, and the offset and
 // round trip that their times come to. All numbers are big-endian.
-mod big_endian;
+pub mod big_endian;
 pub mod words;
 
 ghost use mathlib.Core.Path.{_≡_};

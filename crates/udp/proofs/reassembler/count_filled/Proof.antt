@@ -1,0 +1,20 @@
+-- `udp::reassembler::count_filled` meets its contract: the two answers are the cases of `countedRow`. Assumes nothing.
+use mathlib.Core.Path.{_≡_, refl, sym, ap, _∙_}
+use borrow.Author.Tests.{lt-ltb, le-ltb}
+use borrow.Author.Needs.{needs}
+use Rattle.udp.proofs.reassembler.count_filled.Statement.{statement}
+use Rattle.udp.proofs.reassembler.count_filled.Tie as tie
+use Rattle.udp.proofs.reassembler.count_filled.Reads as reads
+use Rattle.udp.proofs.reassembler.count_filled.Lts as lts
+
+add-filled : tie.Need-add-filled
+add-filled c = search needs
+
+returns : tie.Need-returns
+returns c = rw (lt-ltb _ _ (c .if1 .taken))
+
+returns-2 : tie.Need-returns-2
+returns-2 c = rw (le-ltb _ _ (c .if1 .left))
+
+pub count-filled-spec : {M : Type 1} → statement M
+count-filled-spec = tie.close (tie.spec add-filled returns returns-2)
