@@ -1,0 +1,42 @@
+-- `jitter_checked::push` is safe: what it asked is what the push requires. Assumes nothing.
+use borrow.Author.Tests.{not-false}
+use borrow.Author.Needs.{needs}
+use Rattle.jitter_checked.proofs.push.Statement.{statement}
+use Rattle.jitter_checked.proofs.push.Tie as tie
+
+ready-requires : tie.Need-ready-requires
+ready-requires c κs = search needs
+
+same-length : tie.Need-same-length
+same-length c = search needs
+
+same-length-2 : tie.Need-same-length-2
+same-length-2 c = search needs
+
+returns : tie.Need-returns
+returns c = search needs
+
+push-packet-requires : tie.Need-push-packet-requires
+push-packet-requires c κs = c .before .before .before .ready .ensures (not-false _ (c .before .before .if1 .left))
+
+same-length-3 : tie.Need-same-length-3
+same-length-3 c = search needs
+
+same-length-4 : tie.Need-same-length-4
+same-length-4 c = search needs
+
+returns-2 : tie.Need-returns-2
+returns-2 c = search needs
+
+pub push-spec : {M : Type 1} → statement M
+push-spec =
+    tie.close
+    (tie.spec
+    ready-requires
+    same-length
+    same-length-2
+    returns
+    push-packet-requires
+    same-length-3
+    same-length-4
+    returns-2)

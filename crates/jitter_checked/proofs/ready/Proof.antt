@@ -1,0 +1,33 @@
+-- `jitter_checked::ready` meets its contract. Assumes nothing.
+use mathlib.Core.Path.{_≡_, refl, sym, _∙_, ap}
+use native.Mathlib.Omega.{arith}
+use lib.ListN.{length}
+use borrow.Author.Tests.{not-false, leb-true}
+use Rattle.model.proofs.BoolLaws.{clash}
+use Rattle.sizes.specs.declared.Offsets.{Offsets}
+use Rattle.jitter_checked.proofs.Answered.{asked-allowed, asked-ready}
+use borrow.Author.Needs.{needs}
+use Rattle.jitter_checked.proofs.ready.Statement.{statement}
+use Rattle.jitter_checked.proofs.ready.Tie as tie
+
+could-be-held-requires : tie.Need-could-be-held-requires
+could-be-held-requires c κs = search needs
+
+returns : tie.Need-returns
+returns c = λ e. clash (cc)
+
+section-offsets-requires : tie.Need-section-offsets-requires
+section-offsets-requires c κs =
+    let g = c .before .before .before .before .args in
+    let h = c .before .could-be-held in
+    asked-allowed (g .z) (g .j) (g .us .now) (h .result) (h .ensures) (not-false _ (c .if1 .left))
+
+returns-2 : tie.Need-returns-2
+returns-2 c =
+    let g = c .before .before .before .before .before .before .args in
+    let h = c .before .before .before .could-be-held in
+    let row = ap (λ (o : Offsets). o .row) (c .before .section-offsets .ensures) in
+    λ e. asked-ready (g .z) (g .j) (g .us .now) (h .result) (h .ensures) (not-false _ (c .before .before .if1 .left)) (g .fs .now) (rw row at (leb-true (c .before .section-offsets .result .row) (length (g .fs .now)) e))
+
+pub ready-spec : {M : Type 1} → statement M
+ready-spec = tie.close (tie.spec could-be-held-requires returns section-offsets-requires returns-2)

@@ -1,0 +1,56 @@
+// The jitter buffer's calls for whoever holds no proof of what they ask: each asks question 3 and the
+// lengths first, and refuses. For the vectors and for the comparison with the original.
+mod exports;
+
+ghost use mathlib.Core.Path.{_≡_};
+ghost use mathlib.Core.Bool.{true};
+ghost use lib.ListN.{length};
+ghost use Rattle.jitter_buffer.specs.Promises.{Ready};
+use jitter_buffer::JitterBuffer;
+use jitter_buffer::Popped;
+use sizes::Sizes;
+
+pub enum Pushed {
+    Refused,
+    Done(JitterBuffer),
+}
+
+pub enum Played {
+    Refused,
+    Done(Popped),
+}
+
+// Whether a push and a play may act.
+fn ready(j: JitterBuffer, z: Sizes, fs: &[f32], us: &[u32]) -> bool
+    ensures { λ r. ⌜ (r ≡ true → Ready z j (now (fs .entry)) (now (us .entry))) ⌝ }
+{
+    if !j.could_be_held(z, us, 4294967295) {
+        return false;
+    }
+    let offsets = sizes::section_offsets(z);
+    offsets.row <= fs.len()
+}
+
+pub fn push(
+    j: JitterBuffer,
+    z: Sizes,
+    fs: &mut [f32],
+    us: &mut [u32],
+    sequence: u32,
+    payload: &[u8],
+) -> Pushed {
+    if !ready(j, z, fs, us) {
+        return Pushed::Refused;
+    }
+    Pushed::Done(j.push_packet(z, fs, us, sequence, payload))
+}
+
+pub fn play(j: JitterBuffer, z: Sizes, fs: &mut [f32], us: &mut [u32], out: &mut [f32]) -> Played {
+    if 65535 < out.len() {
+        return Played::Refused;
+    }
+    if !ready(j, z, fs, us) {
+        return Played::Refused;
+    }
+    Played::Done(j.pop_samples(z, fs, us, out))
+}
