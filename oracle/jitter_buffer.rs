@@ -32,9 +32,8 @@ struct Session {
     fs: Vec<f32>,
     us: Vec<u32>,
     original: original::JitterBuffer,
-    // what the original does not count: samples made up, and where its queue stands
+    // what the original does not count: the samples that plays found short
     filled: u64,
-    queued: usize,
 }
 
 fn fail(what: &str, call: usize, sizes: &[usize; 6]) -> ! {
@@ -56,7 +55,6 @@ impl Session {
             us: vec![7; most],
             original: original::JitterBuffer::new(packet, target, max),
             filled: 0,
-            queued: 0,
         }
     }
 

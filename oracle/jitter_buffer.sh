@@ -9,7 +9,7 @@ sources=$(cd "$1" && pwd)
 seed=${2:-1}
 sessions=${3:-100000}
 cd "$here/.."
-rt staticlib jitter_checked > /dev/null
+rt staticlib jitter_checked > /dev/null 2>&1
 work=$(mktemp -d)
 trap 'rm -rf "$work"' EXIT
 cp "$here/jitter_buffer.rs" "$work"
