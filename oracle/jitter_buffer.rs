@@ -36,6 +36,19 @@ struct Session {
     filled: u64,
 }
 
+fn small_sizes(r: &mut Random) -> [usize; 3] {
+    let packet = if r.below(4) == 0 { 1 } else { 1 + r.below(12) as usize };
+    let target = packet + if r.below(4) == 0 { 0 } else { r.below(40) as usize };
+    [packet, target, target + r.below(60) as usize]
+}
+
+// up to the largest that are allowed
+fn large_sizes(r: &mut Random) -> [usize; 3] {
+    let packet = 4096 - r.below(4000) as usize;
+    let target = packet + r.below(65537 - packet as u64) as usize;
+    [packet, target, target + r.below(131073 - target as u64) as usize]
+}
+
 fn fail(what: &str, call: usize, sizes: &[usize; 6]) -> ! {
     println!("DIFFERS: {what} after call {call}, sizes {sizes:?}");
     std::process::exit(1)
@@ -43,9 +56,7 @@ fn fail(what: &str, call: usize, sizes: &[usize; 6]) -> ! {
 
 impl Session {
     fn new(r: &mut Random) -> Session {
-        let packet = if r.below(4) == 0 { 1 } else { 1 + r.below(12) as usize };
-        let target = packet + if r.below(4) == 0 { 0 } else { r.below(40) as usize };
-        let max = target + r.below(60) as usize;
+        let [packet, target, max] = if r.below(400) == 0 { large_sizes(r) } else { small_sizes(r) };
         let most = (max + packet - 1) / packet;
         Session {
             sizes: [packet, target, max, 1, 1, 1],
