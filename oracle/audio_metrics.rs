@@ -1,6 +1,9 @@
 // Holds the crate audio_metrics against the original, on sessions of random calls with edges among their numbers. After
 // each call every reading must be equal bit for bit, and a NaN is equal to a NaN; after a session so must the numbers
 // that no reading shows. Arguments: a seed, and the number of cases a function. See audio_metrics.sh.
+mod random;
+use random::Random;
+
 #[path = "rigflow/rigflow-client/src/audio_metrics.rs"]
 mod audio_metrics;
 use audio_metrics::AudioMetrics;
@@ -40,18 +43,7 @@ const DEPTH: usize = 16_777_216;
 const LOW: i64 = -1_000_000_000;
 const HIGH: i64 = 5_000_000_000;
 
-struct Random(u64);
-
 impl Random {
-    fn next(&mut self) -> u64 {
-        self.0 ^= self.0 << 13;
-        self.0 ^= self.0 >> 7;
-        self.0 ^= self.0 << 17;
-        self.0
-    }
-    fn below(&mut self, n: u64) -> u64 {
-        (self.next() >> 11) % n
-    }
     // a step of at most n either way
     fn near(&mut self, n: u64) -> i64 {
         self.below(2 * n + 1) as i64 - n as i64
@@ -264,7 +256,7 @@ impl Reached {
 
 fn main() {
     let words: Vec<String> = std::env::args().collect();
-    let mut random = Random(words[1].parse::<u64>().unwrap().wrapping_mul(0x9e37_79b9_7f4a_7c15) | 1);
+    let mut random = Random::new(words[1].parse().unwrap());
     let count: u64 = words[2].parse().unwrap();
     let mut reached = Reached::default();
     while reached.calls.iter().any(|n| *n < count) {

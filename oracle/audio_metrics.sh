@@ -12,7 +12,7 @@ cd "$here/.."
 rt staticlib audio_metrics > /dev/null
 work=$(mktemp -d)
 trap 'rm -rf "$work"' EXIT
-cp oracle/audio_metrics.rs "$work"
+cp oracle/audio_metrics.rs oracle/random.rs "$work"
 ln -s "$sources" "$work/rigflow"
 rustc --edition 2021 -O -A warnings -L "$PWD/target/staticlib" -o "$work/audio_metrics" "$work/audio_metrics.rs"
 "$work/audio_metrics" "$seed" "$count"

@@ -1,6 +1,9 @@
 // Holds the crate floats against Rust's own operations. The results must be equal bit for bit, and
 // a NaN is equal to a NaN. Arguments: a seed, the number of random cases a function, and `every`
 // where the functions of one float are to be tried on every float. See floats.sh.
+mod random;
+use random::Random;
+
 #[link(name = "floats", kind = "static")]
 extern "C" {
     fn floats_is_finite(x: f32) -> bool;
@@ -16,18 +19,7 @@ extern "C" {
     fn floats_nearest_i64_to_f32(n: i64) -> f32;
 }
 
-struct Random(u64);
-
 impl Random {
-    fn next(&mut self) -> u64 {
-        self.0 ^= self.0 << 13;
-        self.0 ^= self.0 >> 7;
-        self.0 ^= self.0 << 17;
-        self.0
-    }
-    fn below(&mut self, n: u64) -> u64 {
-        (self.next() >> 11) % n
-    }
     // any pattern, one near an edge, one between 2^-7 and 2^33, or a number of halves
     fn pattern(&mut self, edges: &[u32]) -> u32 {
         let any = (self.next() >> 32) as u32;
@@ -144,7 +136,7 @@ fn nearest(n: i64) {
 
 fn main() {
     let words: Vec<String> = std::env::args().collect();
-    let mut random = Random(words[1].parse::<u64>().unwrap().wrapping_mul(0x9e37_79b9_7f4a_7c15) | 1);
+    let mut random = Random::new(words[1].parse().unwrap());
     let count: u64 = words[2].parse().unwrap();
     let edges = float_edges();
     let wholes = whole_edges();

@@ -1,6 +1,9 @@
 // Holds the crate jitter_buffer against the original's JitterBuffer: random sessions of 5 to 500 calls,
 // and after every call every counter, sample and amount. Arguments: a seed and the number of sessions.
 // See jitter_buffer.sh.
+mod random;
+use random::Random;
+
 #[path = "rigflow/rigflow-core/src/audio/jitter_buffer.rs"]
 mod original;
 
@@ -10,20 +13,6 @@ extern "C" {
     fn jitter_push(sizes: &[usize], state: &mut [u64], fs: &mut [f32], us: &mut [u32], sequence: u32, payload: &[u8]) -> bool;
     fn jitter_play(sizes: &[usize], state: &mut [u64], fs: &mut [f32], us: &mut [u32], out: &mut [f32], answer: &mut [u64]) -> bool;
     fn jitter_reset(state: &mut [u64]) -> bool;
-}
-
-struct Random(u64);
-
-impl Random {
-    fn next(&mut self) -> u64 {
-        self.0 ^= self.0 << 13;
-        self.0 ^= self.0 >> 7;
-        self.0 ^= self.0 << 17;
-        self.0
-    }
-    fn below(&mut self, n: u64) -> u64 {
-        (self.next() >> 11) % n
-    }
 }
 
 struct Session {
@@ -170,7 +159,7 @@ fn main() {
     let mut args = std::env::args().skip(1).map(|a| a.parse::<u64>().unwrap());
     let seed = args.next().unwrap();
     let sessions = args.next().unwrap();
-    let mut r = Random(seed.wrapping_mul(0x9e37_79b9_7f4a_7c15) | 1);
+    let mut r = Random::new(seed);
     let mut calls = 0;
     for _ in 0..sessions {
         calls += session(&mut r);

@@ -2,6 +2,9 @@
 //   tape SEED COUNT
 // Exit status 0: every verdict, place, setup, call and written byte is the same. Else the first case is printed.
 
+mod random;
+use random::Random;
+
 use std::process::exit;
 
 extern "C" {
@@ -224,20 +227,7 @@ fn written(words: Option<Vec<u32>>, place: usize, target: &[u8]) -> (u64, Vec<u8
 
 // ---- random numbers
 
-struct Random(u64);
-
 impl Random {
-    fn next(&mut self) -> u64 {
-        self.0 ^= self.0 << 13;
-        self.0 ^= self.0 >> 7;
-        self.0 ^= self.0 << 17;
-        self.0.wrapping_mul(0x2545_f491_4f6c_dd1d)
-    }
-
-    fn below(&mut self, n: u64) -> u64 {
-        (self.next() >> 11) % n
-    }
-
     fn word(&mut self) -> u32 {
         match self.below(4) {
             0 => self.below(4) as u32,
@@ -472,7 +462,7 @@ fn main() {
     let mut args = std::env::args().skip(1).map(|a| a.parse::<u64>().expect("a number"));
     let seed = args.next().unwrap_or(1);
     let count = args.next().unwrap_or(100_000);
-    let mut random = Random(seed.wrapping_mul(0x9e37_79b9_7f4a_7c15) | 1);
+    let mut random = Random::new(seed);
     let (mut accepted, mut refused, mut written_calls) = (0u64, 0u64, 0u64);
     for i in 0..count {
         let mut bytes = vec![0u8; 512];

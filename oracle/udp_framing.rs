@@ -1,6 +1,8 @@
 // Holds udp_framing against the original by running both on random cases, edges among them. See udp_framing.sh.
 // Arguments: a seed and the number of cases for each function.
 #![allow(warnings)]
+mod random;
+use random::Random;
 
 #[path = "rigflow/rigflow-core/src/net/udp_framing.rs"]
 mod udp_framing;
@@ -21,18 +23,7 @@ extern "C" {
     fn udp_framing_clock_rtt(t1: u64, t2: u64, t3: u64, t4: u64) -> i64;
 }
 
-struct Random(u64);
-
 impl Random {
-    fn next(&mut self) -> u64 {
-        self.0 ^= self.0 << 13;
-        self.0 ^= self.0 >> 7;
-        self.0 ^= self.0 << 17;
-        self.0
-    }
-    fn below(&mut self, n: u64) -> u64 {
-        (self.next() >> 11) % n
-    }
     fn of(&mut self, from: &[u64]) -> u64 {
         from[self.below(from.len() as u64) as usize]
     }
@@ -209,7 +200,7 @@ fn main() {
     let mut arguments = std::env::args().skip(1).map(|a| a.parse::<u64>().expect("a number"));
     let seed = arguments.next().unwrap_or(1);
     let count = arguments.next().unwrap_or(1_000_000);
-    let mut r = Random(seed.wrapping_mul(0x9e37_79b9_7f4a_7c15) | 1);
+    let mut r = Random::new(seed);
     headers(&mut r, count);
     validity(&mut r, count);
     send_times(&mut r, count);

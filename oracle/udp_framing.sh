@@ -12,7 +12,7 @@ work=$(mktemp -d)
 trap 'rm -rf "$work"' EXIT
 cd "$here/.."
 rt staticlib udp_framing_exports > "$work/log" 2>&1 || { tail -n 5 "$work/log"; echo "could not be built"; exit 2; }
-cp "$here"/udp_framing.rs "$work"
+cp "$here"/udp_framing.rs "$here"/random.rs "$work"
 ln -s "$sources" "$work/rigflow"
 rustc --edition 2021 -O -A warnings -L target/staticlib -l static=udp_framing_exports -o "$work/udp_framing" "$work/udp_framing.rs"
 "$work/udp_framing" "$seed" "$count"
