@@ -1,5 +1,6 @@
 pub mod Smoothing
 pub mod Adaptive
+pub mod Audio
 pub mod FloatBytes
 pub mod Prefix
 pub mod RowStore

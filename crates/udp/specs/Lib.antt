@@ -1,3 +1,4 @@
 pub mod Requires
 pub mod Views
 pub mod Rows
+pub mod Packets
