@@ -68,13 +68,18 @@ module _ (r : OpenRow) (entry exit : List Float) (first : ℕ) (bytes : List ℕ
       ap (λ (xs : List Float). take (r .«total_bins») xs) (s .stored)
       ∙ take-placed (r .«total_bins») first (finitePrefix (floatsOf bytes)) entry (omega (arith, prefix-length (floatsOf bytes), length-floats-of bytes, h .inside)) (h .fits)
 
+  as-long : length exit ≡ length entry
+  as-long =
+      ap length (s .stored)
+      ∙ placed-length first (finitePrefix (floatsOf bytes)) entry (omega (arith, prefix-length (floatsOf bytes), length-floats-of bytes, h .inside, h .fits))
+
   pub some-stored : (n ≡ length bytes / 4 → ⊥)
       → PushedAs (storeChunk (chunkOf 0 0 first bytes) (openOf r entry)) (record { row = State.Open r; completed = Completed.NoRow }) exit
   unfolding storeChunk storeSome
   some-stored fewer =
       let differ : eqb (length (finitePrefix (floatsOf bytes))) (length (floatsOf bytes)) ≡ false =
       ne-eqb _ _ (λ e. fewer (s .count ∙ e ∙ length-floats-of bytes)) in
-      rw (not-done, differ) (record { row = rw values-stored; completed = refl })
+      rw (not-done, differ) (record { row = rw values-stored; completed = refl; inside = tt })
 
   pub all-stored : n ≡ length bytes / 4 → PushedAs (storeChunk (chunkOf 0 0 first bytes) (openOf r entry)) (countedRow r (length bytes / 4)) exit
   unfolding storeChunk storeAll complete
@@ -85,7 +90,7 @@ module _ (r : OpenRow) (entry exit : List Float) (first : ℕ) (bytes : List ℕ
       by-test (ltb (r .filled + length bytes / 4) (r .«total_bins»))
       (λ below.
       rw (not-done, eq-eqb _ _ same, below, length-floats-of bytes, lt-leb (r .«total_bins») (r .filled + length bytes / 4) (ltb-true _ _ below))
-      (record { row = rw here; completed = refl }))
+      (record { row = rw here; completed = refl; inside = tt }))
       (λ full.
       rw (not-done, eq-eqb _ _ same, full, length-floats-of bytes, le-leb (r .«total_bins») (r .filled + length bytes / 4) (ltb-false _ _ full))
-      (record { row = rw here; completed = rw here }))
+      (record { row = rw here; completed = rw here; inside = (omega (arith, h .filled-below), omega (arith, h .fits, as-long)) }))

@@ -3,7 +3,7 @@ use mathlib.Core.Path.{_≡_}
 use mathlib.Core.Bool.{true, false, cond}
 use mathlib.Core.Option.{Option, none, some}
 use mathlib.Core.List.{List}
-use Prim.Native.Nat.{ℕ, _+_}
+use Prim.Native.Nat.{ℕ, _+_, _≤_}
 use lib.ListN.{length, take}
 use lib.Dec.{ltb}
 use lib.Ieee.{Float}
@@ -58,7 +58,13 @@ pub record StoredPrefix (first : ℕ) (values entry exit : List Float) (n : ℕ)
   pub count : n ≡ length (finitePrefix values)
   pub stored : exit ≡ placed first (finitePrefix values) entry
 
+-- a completed row has at least one bin and lies in a slice of so many places
+abbrev pub CompletedInside : CompletedRow → ℕ → Type 0
+CompletedInside Completed.NoRow room = Unit {0}
+CompletedInside (Completed.Bins n) room = (1 ≤ n) × (n ≤ room)
+
 -- the model's result, read out of the answer and the slice at exit
 pub record PushedAs (result : RowResult) (r : Pushed) (exit : List Float) : Type 0 where
   pub row : rowOf (r .row) exit ≡ result .row
   pub completed : completedOf (r .completed) exit ≡ result .completed
+  pub inside : CompletedInside (r .completed) (length exit)

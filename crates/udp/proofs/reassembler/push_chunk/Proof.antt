@@ -32,7 +32,7 @@ returns : tie.Need-returns
 returns c = let k = c .before in
     let s = k .before .before .before in
     let ignored : wellFormed (s .args .payload .now) ≡ false = sym (k .is-well-formed .ensures) ∙ not-true _ (c .if1 .taken) in
-    rw (chunk-ignored (s .args .payload .now) (rowOf (s .args .row) (s .args .buf .now)) ignored) (record { row = refl; completed = refl })
+    rw (chunk-ignored (s .args .payload .now) (rowOf (s .args .row) (s .args .buf .now)) ignored) (record { row = refl; completed = refl; inside = tt })
 
 read-u16-requires : tie.Need-read-u16-requires
 read-u16-requires c κs = let k = c .before in

@@ -13,7 +13,7 @@ use Rattle.udp.proofs.reassembler.store_finite.Reads as store-finite-re
 
 returns : tie.Need-returns
 unfolding storeChunk
-returns c = rw (c .if1 .taken) (record { row = refl; completed = refl })
+returns c = rw (c .if1 .taken) (record { row = refl; completed = refl; inside = tt })
 
 store-finite-requires : tie.Need-store-finite-requires
 store-finite-requires c κs = search needs
