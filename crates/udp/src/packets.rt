@@ -7,7 +7,10 @@ ghost use Rattle.model.specs.Samples.{holdsSamples};
 ghost use Rattle.model.specs.Receiver.{totalAllowed};
 ghost use Rattle.sizes.specs.View.{sizesOf};
 ghost use Rattle.jitter_buffer.specs.Promises.{Ready};
-ghost use Rattle.udp.specs.Packets.{AudioHandled};
+ghost use Rattle.udp.specs.Packets.{AudioHandled, rowAsked, screenAsked};
+use crate::Display;
+use crate::reassembler::CompletedRow;
+use crate::reassembler::RowState;
 use jitter_buffer::JitterBuffer;
 use sizes::Sizes;
 
@@ -37,4 +40,57 @@ pub fn handle_audio_packet(
         return jitter;
     }
     jitter.push_packet(z, fs, us, sequence, payload)
+}
+
+// What a channel shows, but for the values, which stand in lent memory: the row that chunks are stored in, how many bins of
+// the spectrum and of smoothing are in use, and the display.
+pub struct Screen {
+    pub row: RowState,
+    pub spectrum_len: usize,
+    pub smooth_len: usize,
+    pub display: Display,
+}
+
+// What a waterfall payload leaves, and the bins of the row that it completed, if it did.
+pub struct Handled {
+    pub screen: Screen,
+    pub completed: CompletedRow,
+}
+
+// Question 3 for a row: whether a receiver with rows of at most so many bins could hold it.
+fn row_could_be_held(row: RowState, bins: usize) -> bool
+    ensures { λ r. ⌜ r ≡ rowAsked bins row ⌝ }
+{
+    let RowState::Open(open) = row else {
+        return true;
+    };
+    let total_bins = open.total_bins;
+    let filled = open.filled;
+    if bins < total_bins {
+        return false;
+    }
+    if filled < total_bins {
+        return !open.done;
+    }
+    if filled - total_bins < total_bins {
+        return open.done;
+    }
+    false
+}
+
+impl Screen {
+    // Question 3 for what a channel shows: whether a receiver with rows of at most so many bins could hold it. It takes any
+    // numbers.
+    pub fn could_be_held(self, bins: usize) -> bool
+        ensures { λ r. ⌜ r ≡ screenAsked bins self ⌝ }
+    {
+        let row = self.row;
+        if !row_could_be_held(row, bins) {
+            return false;
+        }
+        if bins < self.spectrum_len {
+            return false;
+        }
+        self.smooth_len <= bins
+    }
 }
