@@ -1,6 +1,8 @@
 pub mod Smoothing
 pub mod Adaptive
 pub mod Audio
+pub mod Screens
+pub mod RowParts
 pub mod Asked
 pub mod FloatBytes
 pub mod Prefix

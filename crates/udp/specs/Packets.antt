@@ -4,7 +4,7 @@ use mathlib.Core.Bool.{Bool, true, _&&_, Bool·beq}
 use mathlib.Core.Option.{none}
 use mathlib.Core.List.{List, []}
 use Prim.Native.Nat.{ℕ, _+_, _-_, _*_, _≤_}
-use lib.ListN.{length}
+use lib.ListN.{length, take}
 use lib.Dec.{leb, ltb}
 use lib.Ieee.{Float}
 use Rattle.model.specs.Bytes.{part}
@@ -41,3 +41,40 @@ rowAsked bins (State.Open r) =
 -- spectrum and smoothing lengths ≤ bins, too
 unfoldable pub screenAsked : ℕ → Screen → Bool
 screenAsked bins s = rowAsked bins (s .row) && (leb (s .«spectrum_len») bins && leb (s .«smooth_len») bins)
+
+-- ---- a waterfall payload
+
+-- the channel whose values stand in lent memory: `rows` begins with the row, the spectrum stands from bins on and smoothing from 2 × bins on
+abbrev pub channelOf : Sizes → Buffer Float → Screen → List Float → List ℕ → Channel
+channelOf z b s rows picture =
+    record {
+      buffer = b;
+      row = rowOf (s .row) rows;
+      spectrum = part (z .bins) (s .«spectrum_len») rows;
+      smoothing = part (2 * z .bins) (s .«smooth_len») rows;
+      picture = picture;
+      display = displayOf (s .display);
+    }
+
+-- allowed sizes, a screen that could be held, a work section behind the rows, and a whole picture
+pub record ScreenReady (z : Sizes) (s : Screen) (rows work picture : ℕ) : Type 0 where
+  pub allowed : sizesAllowed (sizesOf z) ≡ true
+  pub held : screenAsked (z .bins) s ≡ true
+  pub behind : 3 * z .bins ≤ work
+  pub fits : work + z .bins ≤ rows
+  pub whole : picture ≡ z .width * z .height
+
+-- the row of n bins in front is shown; it stays, and so does what lies between the rows and the work section
+pub record RowShown (z : Sizes) (s : Screen) (rows : List Float) (n work : ℕ) (picture : List ℕ) (r : Screen) (rows′ : List Float) (picture′ : List ℕ) : Type 0 where
+  pub step : (b : Buffer Float) → shownRow (sizesOf z) (rowOf (s .row) rows) (take n rows) (channelOf z b s rows picture) ≡ channelOf z b r rows′ picture′
+  pub front : take (z .bins) rows′ ≡ take (z .bins) rows
+  pub between : part (3 * z .bins) (work - 3 * z .bins) rows′ ≡ part (3 * z .bins) (work - 3 * z .bins) rows
+  pub held : screenAsked (z .bins) r ≡ true
+
+-- a waterfall payload: the channel and the answer are the model's, whatever waits in the jitter buffer
+pub record WaterfallHandled (z : Sizes) (s : Screen) (rows : List Float) (work : ℕ) (picture payload : List ℕ) (r : Handled) (rows′ : List Float) (picture′ : List ℕ) : Type 0 where
+  pub step : (b : Buffer Float)
+      → waterfallInto (sizesOf z) payload (channelOf z b s rows picture)
+      ≡ record { after = channelOf z b (r .screen) rows′ picture′; answer = row (completedOf (r .completed) rows′) }
+  pub between : part (3 * z .bins) (work - 3 * z .bins) rows′ ≡ part (3 * z .bins) (work - 3 * z .bins) rows
+  pub held : screenAsked (z .bins) (r .screen) ≡ true
