@@ -1,12 +1,12 @@
 -- Laws of `placed`: what stands at a place of it, in a part of it, and after one write more, upwards or downwards. Assumes nothing.
-use mathlib.Core.Path.{_≡_, refl, sym, _∙_, ap}
+use mathlib.Core.Path.{_≡_, sym, _∙_, ap}
 use mathlib.Core.List.{List, [], _∷_, _++_, append-assoc}
 use Prim.Native.Nat.{ℕ, suc, _+_, _-_, _≤_, _<_}
-use native.Mathlib.Nat.{add-zero, add-suc}
+use native.Mathlib.Nat.{add-zero}
 use native.Mathlib.Numerals.{add-one}
 use native.Mathlib.Omega.{arith}
 use lib.ListN.{length, take, drop, getD, set, replicate, length-append, length-take, length-drop, take-append-drop, List·getD-append, getD-replicate, length-replicate}
-use lib.Seq.{take-suc, drop-cons, set-at, getD-append-add, getD-drop, getD-take, append-snoc, length-take-le, ext-getD, take-length, drop-length, take-all}
+use lib.Seq.{take-suc, drop-cons, set-at, getD-append-add, getD-drop, getD-take, length-take-le, ext-getD}
 use Rattle.model.specs.Bytes.{part, placed}
 use Rattle.model.proofs.ListLaws.{placed-length}
 
@@ -94,16 +94,19 @@ module _ {ℓ} {A : Type ℓ} where
   placed-none at [] xs e = rw (add-zero at, take-append-drop)
   placed-none at (y ∷ ys) xs e = absurd (omega arith)
 
+  pub placed-more : (at : ℕ) (ys xs : List A) (y : A) → at + length ys < length xs → set (placed at ys xs) (at + length ys) y ≡ placed at (ys ++ (y ∷ [])) xs
+  unfolding placed
+  placed-more at ys xs y here =
+      let head : length (take at xs ++ ys) ≡ at + length ys = simp (length-append, length-take) (omega arith) in
+      let seam : at + length (ys ++ (y ∷ [])) ≡ suc (at + length ys) = simp length-append (omega arith) in
+      rw (seam, ← append-assoc (take at xs) ys (drop (at + length ys) xs), drop-cons xs (at + length ys) y here, set-at _ _ _ _ _ head)
+      (simp append-assoc)
+
   pub placed-up : (d : A) (at i : ℕ) (ys xs : List A) → i < length ys → at + length ys ≤ length xs
       → set (placed at (take i ys) xs) (at + i) (getD ys i d) ≡ placed at (take (i + 1) ys) xs
-  unfolding placed
   placed-up d at i ys xs h fits =
-      let here : at + i < length xs = omega arith in
       let front : length (take i ys) ≡ i = length-take-le i ys (omega arith) in
-      let front′ : length (take (suc i) ys) ≡ suc i = length-take-le (suc i) ys (omega arith) in
-      let head : length (take at xs ++ take i ys) ≡ at + i = simp (length-append, length-take) (omega arith) in
-      rw (add-one i, front, front′, ← append-assoc (take at xs) (take i ys) (drop (at + i) xs), drop-cons xs (at + i) d here, set-at _ _ _ _ _ head, take-suc ys i d h)
-      (simp (append-assoc, add-suc))
+      rw (add-one i, take-suc ys i d h) (rw front at (placed-more at (take i ys) xs (getD ys i d) (omega arith)))
 
   pub placed-down : (d : A) (at i : ℕ) (ys xs : List A) → i < length ys → at + length ys ≤ length xs
       → set (placed (at + (i + 1)) (drop (i + 1) ys) xs) (at + i) (getD ys i d) ≡ placed (at + i) (drop i ys) xs

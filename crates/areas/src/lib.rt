@@ -63,13 +63,13 @@ pub fn fill(a: &mut [f32], at: usize, n: usize, x: f32)
     }
 }
 
-pub fn fill_u32(a: &mut [u32], at: usize, n: usize, x: u32)
+pub fn fill_u32(a: &mut [u32], at: usize, n: usize, word: u32)
     requires { ⌜ at + n ≤ length (now a) ⌝ }
-    ensures { λ r. ⌜ now (a .exit) ≡ placed at (replicate n x) (now (a .entry)) ⌝ }
+    ensures { λ r. ⌜ now (a .exit) ≡ placed at (replicate n word) (now (a .entry)) ⌝ }
 {
     let mut i = 0;
     while i < n {
-        a[at + i] = x;
+        a[at + i] = word;
         i += 1;
     }
 }

@@ -1,5 +1,5 @@
 pub mod Counted
-pub mod Zipped
+pub mod RowInFront
 pub mod Spectrum
 pub mod Finite
 pub mod Places

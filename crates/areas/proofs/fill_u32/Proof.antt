@@ -11,10 +11,10 @@ use Rattle.areas.proofs.fill_u32.Statement.{statement}
 use Rattle.areas.proofs.fill_u32.Tie as tie
 
 abbrev Inv-loop : tie.InvT-loop
-Inv-loop a₀ at n x i₀ a i = (i ≤ n) × (a ≡ placed at (replicate i x) a₀) × (length a ≡ length a₀)
+Inv-loop a₀ at n word i₀ a i = (i ≤ n) × (a ≡ placed at (replicate i word) a₀) × (length a ≡ length a₀)
 
 abbrev μ-loop : tie.MeasureT-loop
-μ-loop a₀ at n x i₀ a i = n - i
+μ-loop a₀ at n word i₀ a i = n - i
 
 loop-holds : tie.Need-loop-holds Inv-loop μ-loop
 loop-holds c = (omega arith, placed-none (c .args .at) [] (c .args .a .now) refl, refl)
@@ -39,7 +39,7 @@ loop-again c =
     let k = c .before in
     let g = k .before .args in (
       omega arith,
-      rw (k .loop .inv .1) (fill-step (g .at) (g .n) (k .loop .i) (g .x) (g .a .now) (omega arith) (omega arith)),
+      rw (k .loop .inv .1) (fill-step (g .at) (g .n) (k .loop .i) (g .word) (g .a .now) (omega arith) (omega arith)),
       simp length-set (k .loop .inv .2),
     )
 
