@@ -4,16 +4,17 @@ pub mod packets;
 pub mod reassembler;
 
 ghost use mathlib.Core.Path.{_≡_};
-ghost use Prim.Native.Nat.{_≤_};
-ghost use mathlib.Core.List.{zipWith};
+ghost use Prim.Native.Nat.{_+_};
 ghost use lib.ListN.{length, take};
-ghost use Rattle.model.specs.Bytes.{placed};
+ghost use Rattle.model.specs.Bytes.{part};
 ghost use Rattle.model.specs.Counts.{counted};
-ghost use Rattle.model.specs.Scaling.{smoothed, smoothingAfter, estimated, estimatesToward, displayAfter, shownTop, shownRange};
-ghost use Rattle.spectrum_utils.specs.Promises.{Updated};
+ghost use Rattle.model.specs.Scaling.{smoothed, smoothingAfter, estimated, estimatesToward, shownTop, shownRange};
+ghost use Rattle.areas.specs.Parts.{zippedAt};
+ghost use Rattle.spectrum_utils.specs.Promises.{Behind, Updated};
 ghost use Rattle.spectrum_utils.specs.Estimates.{RowFits};
 ghost use Rattle.udp.specs.Requires.{CountsFit};
 ghost use Rattle.udp.specs.Views.{countsOf, displayOf};
+ghost use Rattle.udp.specs.Displays.{AdaptiveUpdated};
 use spectrum_utils::FloorAndTop;
 use spectrum_utils::RowEstimate;
 use std::num::wrapping_add_u32;
@@ -85,33 +86,33 @@ pub fn update_sequence_stats(counts: StreamCounts, sequence: u32) -> StreamCount
 }
 
 // Smooths a row into the running one: copied on a length change or at a weight of 1, else each bin moves toward the
-// row's. `len` bins of `smooth` are in use; the answer is how many are then.
-pub fn smooth_row(smooth: &mut [f32], len: usize, row: &[f32], smoothing: f32) -> usize
-    requires { ⌜ (len ≤ length (now smooth)) × (length (now row) ≤ length (now smooth)) ⌝ }
-    ensures { λ r. ⌜ Updated (smoothingAfter smoothing (now (row .entry)) (take len (now (smooth .entry)))) (now (smooth .entry)) (now (smooth .exit)) r ⌝ }
+// row's. `rows` begins with the row's bins; the running row stands from `smooth` on, `len` bins of it in use. The answer
+// is how many are then.
+pub fn smooth_row(rows: &mut [f32], bins: usize, smooth: usize, len: usize, smoothing: f32) -> usize
+    requires { ⌜ Behind bins smooth len (length (now rows)) ⌝ }
+    ensures { λ r. ⌜ Updated smooth (smoothingAfter smoothing (take bins (now (rows .entry))) (part smooth len (now (rows .entry)))) (now (rows .entry)) (now (rows .exit)) r ⌝ }
 {
-    let n = row.len();
     let w = 1.0 - 0.9 * floats::clamp(smoothing, 0.0, 1.0);
-    if len != n {
-        areas::copy(smooth, row, 0, 0, n);
-        return n;
+    if len != bins {
+        areas::move_up(rows, 0, smooth, bins);
+        return bins;
     }
     if w >= 1.0 {
-        areas::copy(smooth, row, 0, 0, n);
-        return n;
+        areas::move_up(rows, 0, smooth, bins);
+        return bins;
     }
-    move_toward(smooth, row, w);
-    n
+    move_toward(rows, bins, smooth, w);
+    bins
 }
 
 // Each bin moves by the weight w toward the row's.
-fn move_toward(smooth: &mut [f32], row: &[f32], w: f32)
-    requires { ⌜ length (now row) ≤ length (now smooth) ⌝ }
-    ensures { λ r. ⌜ now (smooth .exit) ≡ placed 0 (zipWith (smoothed w) (take (length (now (row .entry))) (now (smooth .entry))) (now (row .entry))) (now (smooth .entry)) ⌝ }
+fn move_toward(rows: &mut [f32], bins: usize, smooth: usize, w: f32)
+    requires { ⌜ Behind bins smooth bins (length (now rows)) ⌝ }
+    ensures { λ r. ⌜ now (rows .exit) ≡ zippedAt (smoothed w) smooth bins (now (rows .entry)) ⌝ }
 {
     let mut i = 0;
-    while i < row.len() {
-        smooth[i] = smooth[i] + w * (row[i] - smooth[i]);
+    while i < bins {
+        rows[smooth + i] = rows[smooth + i] + w * (rows[i] - rows[smooth + i]);
         i += 1;
     }
 }
@@ -128,20 +129,21 @@ pub struct Display {
     pub range_estimate: f32,
 }
 
-// With adaptive on, the estimates follow a row that has finite values. With it off nothing is worked out. What `work`
-// holds afterwards is free.
+// With adaptive on, the estimates follow the row that `rows` begins with, if it has finite values. With it off nothing
+// is worked out. What stands from `work` on is free afterwards.
 pub fn update_adaptive_waterfall_display(
     display: Display,
-    row_db: &[f32],
-    work: &mut [f32],
+    rows: &mut [f32],
+    bins: usize,
+    work: usize,
 ) -> Display
-    requires { ⌜ RowFits (length (now «row_db»)) (length (now work)) ⌝ }
-    ensures { λ r. ⌜ displayOf r ≡ displayAfter (now («row_db» .entry)) (displayOf display) ⌝ }
+    requires { ⌜ RowFits bins work (length (now rows)) ⌝ }
+    ensures { λ r. ⌜ AdaptiveUpdated bins work (now (rows .entry)) (now (rows .exit)) display r ⌝ }
 {
     if !display.adaptive {
         return display;
     }
-    let estimate = spectrum_utils::estimate_row_floor_and_top_db(row_db, work);
+    let estimate = spectrum_utils::estimate_row_floor_and_top_db(rows, bins, work);
     let RowEstimate::Levels(levels) = estimate else {
         return display;
     };

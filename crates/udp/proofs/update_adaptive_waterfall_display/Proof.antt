@@ -1,5 +1,6 @@
 -- `udp::update_adaptive_waterfall_display` meets its contract: the three answers are the cases of `displayAfter`. Assumes nothing.
-use mathlib.Core.Path.{_≡_, refl, sym, ap, _∙_}
+use mathlib.Core.Path.{refl, sym, ap, _∙_}
+use lib.ListN.{take}
 use borrow.Author.Tests.{not-true, not-false}
 use Rattle.spectrum_utils.specs.Estimates.{estimateOf}
 use Rattle.udp.specs.Views.{displayOf}
@@ -13,8 +14,11 @@ use Rattle.spectrum_utils.proofs.estimate_row_floor_and_top_db.Reads as estimat
 use Rattle.udp.proofs.estimates_toward.Reads as estimates-toward-reads
 
 returns : tie.Need-returns
-returns c = let g = c .before .before .before .before .args in
-    stays-with-adaptive-off (g .row-db .now) (displayOf (g .display)) (not-true _ (c .if1 .taken))
+returns c = let g = c .before .before .before .args in
+    record {
+      display = stays-with-adaptive-off (take (g .bins) (g .rows .now)) (displayOf (g .display)) (not-true _ (c .if1 .taken));
+      before = refl;
+    }
 
 estimate-row-floor-and-top-db-requires : tie.Need-estimate-row-floor-and-top-db-requires
 estimate-row-floor-and-top-db-requires c κs = search needs
@@ -30,9 +34,14 @@ same-length c = search needs
 
 returns-2 : tie.Need-returns-2
 returns-2 c = let k = c .before .before .before .before in
-    let g = k .before .before .before .before .before .before .args in
+    let g = k .before .before .before .before .before .args in
+    let got = k .estimate-row-floor-and-top-db .ensures in
     let told = ap estimateOf (c .enum-told .given .1) in
-    stays-with-none-finite (g .row-db .now) (displayOf (g .display)) (not-false _ (k .before .before .if1 .left)) (sym (k .estimate-row-floor-and-top-db .ensures) ∙ told)
+    record {
+      display =
+          stays-with-none-finite (take (g .bins) (g .rows .now)) (displayOf (g .display)) (not-false _ (k .before .before .if1 .left)) (sym (got .estimate) ∙ told);
+      before = got .before;
+    }
 
 estimates-toward-requires : tie.Need-estimates-toward-requires
 estimates-toward-requires c κs = search needs
@@ -42,10 +51,15 @@ same-length-2 c = search needs
 
 returns-3 : tie.Need-returns-3
 returns-3 c = let k = c .before .before .before .before .before .before in
-    let g = k .before .before .before .before .before .before .args in
+    let g = k .before .before .before .before .before .args in
+    let got = k .estimate-row-floor-and-top-db .ensures in
     let told = ap estimateOf (c .before .before .estimate .given .1) in
-    c .estimates-toward .ensures
-    ∙ moves-toward-levels (g .row-db .now) (displayOf (g .display)) (not-false _ (k .before .before .if1 .left)) _ (sym (k .estimate-row-floor-and-top-db .ensures) ∙ told)
+    record {
+      display =
+          c .estimates-toward .ensures
+          ∙ moves-toward-levels (take (g .bins) (g .rows .now)) (displayOf (g .display)) (not-false _ (k .before .before .if1 .left)) _ (sym (got .estimate) ∙ told);
+      before = got .before;
+    }
 
 pub update-adaptive-waterfall-display-spec : {M : Type 1} → statement M
 update-adaptive-waterfall-display-spec =
