@@ -1,6 +1,8 @@
 pub mod Smoothing
 pub mod Adaptive
 pub mod Audio
+pub mod ChunkHandled
+pub mod ShowRow
 pub mod Screens
 pub mod RowParts
 pub mod Asked

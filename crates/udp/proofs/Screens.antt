@@ -71,6 +71,12 @@ unfolding rowAsked rowHeld
 kept-asked z State.NoRow xs kept = refl
 kept-asked z (State.Open r) xs kept = row-kept-held (sizesOf z) (some (openOf r xs)) kept
 
+pub asked-lengths : (bins : ℕ) (s : Screen) → screenAsked bins s ≡ true → (s .«spectrum_len» ≤ bins) × (s .«smooth_len» ≤ bins)
+unfolding screenAsked
+asked-lengths bins s asked =
+    let lengths = and-eq-true-iff (leb (s .«spectrum_len») bins) _ .0 (second-of-both (rowAsked bins (s .row)) _ asked) in
+    (leb-true _ _ (lengths .0), leb-true _ _ (lengths .1))
+
 -- ---- a row that is shown
 
 module _ (z : Sizes) (s : Screen) (b : Buffer Float) (n : ℕ) (rows rows′ : List Float) (picture picture′ : List ℕ) (d : Display)

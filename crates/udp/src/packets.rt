@@ -7,10 +7,12 @@ ghost use Rattle.model.specs.Samples.{holdsSamples};
 ghost use Rattle.model.specs.Receiver.{totalAllowed};
 ghost use Rattle.sizes.specs.View.{sizesOf};
 ghost use Rattle.jitter_buffer.specs.Promises.{Ready};
-ghost use Rattle.udp.specs.Packets.{AudioHandled, rowAsked, screenAsked};
+ghost use Prim.Native.Nat.{_≤_};
+ghost use Rattle.udp.specs.Packets.{AudioHandled, rowAsked, screenAsked, ScreenReady, RowShown, WaterfallHandled};
 use crate::Display;
 use crate::reassembler::CompletedRow;
 use crate::reassembler::RowState;
+use crate::reassembler::push_chunk;
 use jitter_buffer::JitterBuffer;
 use sizes::Sizes;
 
@@ -92,5 +94,80 @@ impl Screen {
             return false;
         }
         self.smooth_len <= bins
+    }
+}
+
+// Shows the row of n bins that `rows` begins with: the spectrum and the estimates follow the raw row, then smoothing does,
+// and the smoothed row is drawn. In `rows` the spectrum stands from bins on and smoothing from 2 × bins on; from `work` on
+// is room for a sort.
+fn show_row(
+    screen: Screen,
+    z: Sizes,
+    rows: &mut [f32],
+    n: usize,
+    work: usize,
+    picture: &mut [u32],
+) -> Screen
+    requires { ⌜ ScreenReady z screen (length (now rows)) work (length (now picture)) × (1 ≤ n) × (n ≤ z .bins) ⌝ }
+    ensures { λ r. ⌜ RowShown z screen (now (rows .entry)) n work (now (picture .entry)) r (now (rows .exit)) (now (picture .exit)) ⌝ }
+{
+    let bins = z.bins;
+    let smooth = 2 * bins;
+    let spectrum_len = spectrum_utils::update_spectrum_db(rows, n, bins, screen.spectrum_len);
+    let display = crate::update_adaptive_waterfall_display(screen.display, rows, n, work);
+    let smooth_len = crate::smooth_row(rows, n, smooth, screen.smooth_len, display.smoothing);
+    let end = smooth + smooth_len;
+    waterfall::draw_row_db(
+        picture,
+        z.width,
+        z.height,
+        &rows[smooth..end],
+        crate::shown_top(display),
+        crate::shown_range(display),
+        display.zoom,
+    );
+    let row = screen.row;
+    Screen {
+        row,
+        spectrum_len,
+        smooth_len,
+        display,
+    }
+}
+
+// A waterfall payload: its chunk goes to the row, and a row that it completes is shown.
+pub fn handle_waterfall_packet(
+    screen: Screen,
+    z: Sizes,
+    rows: &mut [f32],
+    work: usize,
+    picture: &mut [u32],
+    payload: &[u8],
+) -> Handled
+    requires { ⌜ ScreenReady z screen (length (now rows)) work (length (now picture)) × (totalAllowed (sizesOf z) (now payload) ≡ true) ⌝ }
+    ensures { λ r. ⌜ WaterfallHandled z screen (now (rows .entry)) work (now (picture .entry)) (now (payload .entry)) r (now (rows .exit)) (now (picture .exit)) ⌝ }
+{
+    let bins = z.bins;
+    let row = screen.row;
+    let pushed = push_chunk(row, &mut rows[..bins], payload);
+    let row_after = pushed.row;
+    let display = screen.display;
+    let filled = Screen {
+        row: row_after,
+        spectrum_len: screen.spectrum_len,
+        smooth_len: screen.smooth_len,
+        display,
+    };
+    let completed = pushed.completed;
+    let CompletedRow::Bins(n) = completed else {
+        return Handled {
+            screen: filled,
+            completed: CompletedRow::NoRow,
+        };
+    };
+    let shown = show_row(filled, z, rows, n, work, picture);
+    Handled {
+        screen: shown,
+        completed: CompletedRow::Bins(n),
     }
 }
