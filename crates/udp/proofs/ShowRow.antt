@@ -32,7 +32,7 @@ smoothed-count at n k smoothing old rows rows′ fits u = u .count ∙ smoothing
 module _ (z : Sizes) (s : Screen) (n work : ℕ) (rows averaged sorted rows′ : List Float) (picture picture′ : List ℕ) (d : Display) (n1 n2 : ℕ)
     (ready : ScreenReady z s (length rows) work (length picture)) (few : n ≤ z .bins)
     (spectrum : Updated (z .bins) (spectrumAfter (take n rows) (part (z .bins) (s .«spectrum_len») rows)) rows averaged n1)
-    (display : AdaptiveUpdated n work averaged sorted (s .display) d) (as-long : length sorted ≡ length averaged)
+    (display : AdaptiveUpdated 0 n work averaged sorted (s .display) d) (as-long : length sorted ≡ length averaged)
     (smoothing : Updated (2 * z .bins) (smoothingAfter (d .smoothing) (take n sorted) (part (2 * z .bins) (s .«smooth_len») sorted)) sorted rows′ n2)
     (drawn : picture′ ≡ pictureAfter (z .width) (z .height) (shownTop (displayOf d)) (shownRange (displayOf d)) (d .zoom) (take (2 * z .bins + n2 - 2 * z .bins) (drop (2 * z .bins) rows′)) picture) where
   abbrev left : Screen

@@ -11,10 +11,9 @@ ghost use Rattle.model.specs.Counts.{counted};
 ghost use Rattle.model.specs.Scaling.{smoothed, smoothingAfter, estimated, estimatesToward, shownTop, shownRange};
 ghost use Rattle.areas.specs.Parts.{zippedAt};
 ghost use Rattle.spectrum_utils.specs.Promises.{Behind, Updated};
-ghost use Rattle.spectrum_utils.specs.Estimates.{RowFits};
 ghost use Rattle.udp.specs.Requires.{CountsFit};
 ghost use Rattle.udp.specs.Views.{countsOf, displayOf};
-ghost use Rattle.udp.specs.Displays.{AdaptiveUpdated};
+ghost use Rattle.udp.specs.Displays.{RowAt, AdaptiveUpdated};
 use spectrum_utils::FloorAndTop;
 use spectrum_utils::RowEstimate;
 use std::num::wrapping_add_u32;
@@ -129,21 +128,23 @@ pub struct Display {
     pub range_estimate: f32,
 }
 
-// With adaptive on, the estimates follow the row that `rows` begins with, if it has finite values. With it off nothing
-// is worked out. What stands from `work` on is free afterwards.
+// With adaptive on, the estimates follow the row of so many bins from `row_db` on, if it has finite values. With it off
+// nothing is worked out. What stands from `work` on is free afterwards.
 pub fn update_adaptive_waterfall_display(
     display: Display,
     rows: &mut [f32],
+    row_db: usize,
     bins: usize,
     work: usize,
 ) -> Display
-    requires { ⌜ RowFits bins work (length (now rows)) ⌝ }
-    ensures { λ r. ⌜ AdaptiveUpdated bins work (now (rows .entry)) (now (rows .exit)) display r ⌝ }
+    requires { ⌜ RowAt «row_db» bins work (length (now rows)) ⌝ }
+    ensures { λ r. ⌜ AdaptiveUpdated «row_db» bins work (now (rows .entry)) (now (rows .exit)) display r ⌝ }
 {
     if !display.adaptive {
         return display;
     }
-    let estimate = spectrum_utils::estimate_row_floor_and_top_db(rows, bins, work);
+    let room = work - row_db;
+    let estimate = spectrum_utils::estimate_row_floor_and_top_db(&mut rows[row_db..], bins, room);
     let RowEstimate::Levels(levels) = estimate else {
         return display;
     };

@@ -114,7 +114,7 @@ fn show_row(
     let bins = z.bins;
     let smooth = 2 * bins;
     let spectrum_len = spectrum_utils::update_spectrum_db(rows, n, bins, screen.spectrum_len);
-    let display = crate::update_adaptive_waterfall_display(screen.display, rows, n, work);
+    let display = crate::update_adaptive_waterfall_display(screen.display, rows, 0, n, work);
     let smooth_len = crate::smooth_row(rows, n, smooth, screen.smooth_len, display.smoothing);
     let end = smooth + smooth_len;
     waterfall::draw_row_db(
