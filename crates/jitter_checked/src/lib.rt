@@ -20,6 +20,11 @@ pub enum Played {
     Done(Popped),
 }
 
+pub enum Amount {
+    Refused,
+    Samples(usize),
+}
+
 // Whether a push and a play may act.
 fn ready(j: JitterBuffer, z: Sizes, fs: &[f32], us: &[u32]) -> bool
     ensures { λ r. ⌜ (r ≡ true → Ready z j (now (fs .entry)) (now (us .entry))) ⌝ }
@@ -53,4 +58,12 @@ pub fn play(j: JitterBuffer, z: Sizes, fs: &mut [f32], us: &mut [u32], out: &mut
         return Played::Refused;
     }
     Played::Done(j.pop_samples(z, fs, us, out))
+}
+
+// The buffered amount.
+pub fn buffered_samples(j: JitterBuffer, z: Sizes, fs: &[f32], us: &[u32]) -> Amount {
+    if !ready(j, z, fs, us) {
+        return Amount::Refused;
+    }
+    Amount::Samples(j.buffered_samples(z))
 }

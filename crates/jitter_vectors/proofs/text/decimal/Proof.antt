@@ -1,0 +1,64 @@
+-- `jitter_vectors::text::decimal` ends: the measure is what is left of the text. Assumes nothing.
+use Prim.Native.Nat.{_-_}
+use mathlib.Core.Path.{_≡_}
+use lib.ListN.{length}
+use borrow.Author.Needs.{needs}
+use Rattle.jitter_vectors.proofs.text.decimal.Statement.{statement}
+use Rattle.jitter_vectors.proofs.text.decimal.Tie as tie
+
+abbrev Inv-loop : tie.InvT-loop
+Inv-loop text from at₀ value₀ at value = at ≡ at
+
+abbrev μ-loop : tie.MeasureT-loop
+μ-loop text from at₀ value₀ at value = length text - at
+
+digit-from-requires : tie.Need-digit-from-requires Inv-loop μ-loop
+digit-from-requires c κs = search needs
+
+loop-holds : tie.Need-loop-holds Inv-loop μ-loop
+loop-holds c = search needs
+
+shared-slice-read-is-digit : tie.Need-shared-slice-read-is-digit Inv-loop μ-loop
+shared-slice-read-is-digit c = search needs
+
+is-digit-requires : tie.Need-is-digit-requires Inv-loop μ-loop
+is-digit-requires c κs = search needs
+
+returns : tie.Need-returns Inv-loop μ-loop
+returns c = search needs
+
+shared-slice-read-with-digit : tie.Need-shared-slice-read-with-digit Inv-loop μ-loop
+shared-slice-read-with-digit c = search needs
+
+with-digit-requires : tie.Need-with-digit-requires Inv-loop μ-loop
+with-digit-requires c κs = search needs
+
+add-at : tie.Need-add-at Inv-loop μ-loop
+add-at c = search needs
+
+loop-less : tie.Need-loop-less Inv-loop μ-loop
+loop-less c = search needs
+
+loop-again : tie.Need-loop-again Inv-loop μ-loop
+loop-again c = search needs
+
+returns-2 : tie.Need-returns-2 Inv-loop μ-loop
+returns-2 c = search needs
+
+pub decimal-spec : {M : Type 1} → statement M
+decimal-spec =
+    tie.close
+    (tie.spec
+    Inv-loop
+    μ-loop
+    digit-from-requires
+    loop-holds
+    shared-slice-read-is-digit
+    is-digit-requires
+    returns
+    shared-slice-read-with-digit
+    with-digit-requires
+    add-at
+    loop-less
+    loop-again
+    returns-2)
