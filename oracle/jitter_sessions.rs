@@ -57,9 +57,7 @@ impl Session {
 
     fn print(&self) {
         let [packet, target, max] = self.sizes;
-        let name = self.name.replace(' ', "_");
-        println!("\nfn {name}(t: Tally) -> Tally {{\n    run(\n        t,\n        b\"{}\",\n        sizes({packet}, {target}, {max}),", self.name);
-        print!("        b\"");
+        println!("{} {packet} {target} {max}", self.name);
         let mut short = 0;
         for (i, call) in self.calls.iter().enumerate() {
             let mut j = self.after(i);
@@ -108,7 +106,6 @@ impl Session {
             }
             println!("{end}");
         }
-        println!("\",\n    )\n}}");
     }
 }
 
@@ -118,12 +115,15 @@ fn session(name: &'static str, packet: usize, target: usize, max: usize, calls: 
 
 const LAST: u32 = u32::MAX;
 
-fn sessions() -> Vec<Session> {
+fn groups() -> Vec<(&'static str, Vec<Session>)> {
     vec![
+        ("starred", vec![
         session("in order", 4, 8, 16, &[Push(10, 4, 1), Push(11, 4, 5), Play(4), Play(4), Play(4)]),
         session("gap", 4, 8, 16, &[Push(10, 4, 1), Push(20, 4, 5), Play(8), Play(8), Play(8), Play(3)]),
         session("above target", 64, 112, 256, &[Push(1, 64, 1), Push(2, 64, 65), Play(10), Play(60), Play(60)]),
         session("near target", 64, 113, 256, &[Push(1, 64, 1), Push(2, 64, 65), Play(10), Play(64), Play(64)]),
+        ]),
+        ("order", vec![
         session("wrap", 2, 4, 8, &[
             Push(LAST - 1, 2, 32766), Push(LAST, 2, 65534), Push(0, 2, 9), Push(LAST, 2, 20), Push(1, 2, 11), Play(3), Play(4), Push(3, 2, 13), Play(6), Play(2),
         ]),
@@ -133,6 +133,8 @@ fn sessions() -> Vec<Session> {
         session("out of order", 3, 9, 18, &[
             Push(7, 3, 1), Push(5, 3, 4), Push(6, 3, 7), Push(9, 3, 10), Push(8, 3, 13), Play(5), Push(10, 3, 16), Play(9), Play(9),
         ]),
+        ]),
+        ("full", vec![
         session("duplicate of a full buffer", 4, 8, 16, &[
             Push(10, 4, 1), Push(11, 4, 5), Push(12, 4, 9), Push(13, 4, 13), Push(13, 4, 100), Push(14, 4, 17), Play(8), Play(8),
         ]),
@@ -145,6 +147,8 @@ fn sessions() -> Vec<Session> {
         session("late", 4, 8, 24, &[
             Push(10, 4, 1), Push(11, 4, 5), Push(9, 4, 50), Push(11, 4, 60), Push(10, 3, 70), Push(12, 4, 9), Push(0, 4, 80), Play(4), Push(12, 4, 90), Play(8), Play(8),
         ]),
+        ]),
+        ("gaps", vec![
         session("two gaps", 2, 10, 20, &[
             Push(1, 2, 1), Push(2, 2, 3), Push(3, 2, 5), Push(4, 2, 7), Push(5, 2, 9), Push(8, 2, 11), Play(4), Push(10, 2, 13), Play(6), Play(6), Play(6),
         ]),
@@ -154,6 +158,8 @@ fn sessions() -> Vec<Session> {
         session("plays of none", 64, 112, 256, &[
             Play(0), Push(1, 64, 1), Play(0), Push(2, 64, 65), Play(0), Play(0), Push(3, 64, 129), Play(0), Play(2), Reset, Play(0),
         ]),
+        ]),
+        ("small", vec![
         session("packet of one sample", 1, 3, 6, &[
             Push(5, 1, 1), Push(6, 1, 32767), Push(7, 1, 32768), Play(1), Push(9, 1, 65535), Play(2), Push(13, 1, 5), Push(14, 1, 6), Push(15, 1, 7), Play(3), Play(0), Play(4), Play(1),
         ]),
@@ -169,20 +175,26 @@ fn sessions() -> Vec<Session> {
         session("before the start", 4, 12, 16, &[
             Play(5), Push(7, 4, 1), Play(4), Push(6, 4, 5), Play(3), Push(9, 4, 9), Play(4), Play(4), Play(4), Play(4),
         ]),
+        ]),
     ]
 }
 
 fn main() {
-    let all = sessions();
     println!("// Sessions of the jitter buffer, with what the original answered to each call (rustc 1.95.0). Printed by");
     println!("// oracle/jitter_sessions.sh, which says how a line is read.");
-    println!("use crate::session::run;\nuse crate::session::sizes;\nuse crate::tally::Tally;");
-    for s in &all {
-        s.print();
+    println!("use crate::session::run;\nuse crate::tally::Tally;");
+    let mut all = "t".to_string();
+    for (name, sessions) in groups() {
+        println!("\nfn {name}(t: Tally) -> Tally {{\n    run(\n        t,");
+        print!("        b\"");
+        for (i, s) in sessions.iter().enumerate() {
+            if 0 < i {
+                println!();
+            }
+            s.print();
+        }
+        println!("\",\n    )\n}}");
+        all = format!("{name}({all})");
     }
-    println!("\npub fn all(t: Tally) -> Tally {{");
-    for s in &all {
-        println!("    let t = {}(t);", s.name.replace(' ', "_"));
-    }
-    println!("    t\n}}");
+    println!("\npub fn all(t: Tally) -> Tally {{\n    {all}\n}}");
 }

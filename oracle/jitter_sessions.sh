@@ -3,7 +3,8 @@
 #   oracle/jitter_sessions.sh SOURCES | diff - crates/jitter_vectors/src/sessions.rt
 # SOURCES is the folder that has rigflow-core/ and rigflow-client/. No line: the list is the original's.
 #
-# A line is a call and, behind the colon, what is to be found after it.
+# A session is its name, packet, target and max, then a line for each call, and an empty line between two
+# sessions. A line is a call and, behind the colon, what is to be found after it.
 #   push SEQUENCE SAMPLES FIRST   a packet of so many samples, the first one FIRST, in 16 bits, the
 #                                 others counting up from it
 #   play SAMPLES

@@ -6,11 +6,13 @@ use crate::compare::numbers;
 use crate::compare::samples_agree;
 use crate::tally::Ended;
 use crate::tally::Tally;
-use crate::tally::begun;
 use crate::tally::tallied;
 use crate::text::Call;
+use crate::text::behind_empty_line;
 use crate::text::call_at;
 use crate::text::decimal;
+use crate::text::ends_at;
+use crate::text::name;
 use jitter_buffer::JitterBuffer;
 use jitter_checked::Played;
 use jitter_checked::Pushed;
@@ -198,13 +200,13 @@ fn step(
     }
 }
 
-// All lines; a session has fewer than a hundred.
-fn steps(z: Sizes, fs: &mut [f32], us: &mut [u32], text: &[u8]) -> Ended {
+// The calls of one session, to an empty line or the text's end. A session has fewer than a hundred.
+fn steps(z: Sizes, fs: &mut [f32], us: &mut [u32], text: &[u8], from: usize) -> Ended {
     let mut j = JitterBuffer::new();
-    let mut at = 0;
+    let mut at = from;
     let mut n: u64 = 0;
     while n < 100 {
-        if text.len() <= at {
+        if ends_at(text, at) {
             return Ended::Equal(n);
         }
         let stepped = step(z, j, fs, us, text, at);
@@ -220,10 +222,37 @@ fn steps(z: Sizes, fs: &mut [f32], us: &mut [u32], text: &[u8]) -> Ended {
     Ended::Differs(n, not_accepted())
 }
 
-// Whatever the free places hold.
-pub fn run(t: Tally, name: &[u8], z: Sizes, text: &[u8]) -> Tally {
+// One session: its name, its sizes, its calls, whatever the free places hold.
+fn session(t: Tally, text: &[u8], at: usize) -> Tally {
+    let packet = decimal(text, at);
+    let target = decimal(text, packet.at);
+    let max = decimal(text, target.at);
+    let z = sizes(
+        packet.value as usize,
+        target.value as usize,
+        max.value as usize,
+    );
     let mut fs = [2.0f32; 512];
     let mut us = [7u32; 64];
-    begun(name);
-    tallied(t, steps(z, &mut fs, &mut us, text))
+    name(text, at);
+    tallied(
+        t,
+        steps(z, &mut fs, &mut us, text, wrapping_add_usize(max.at, 1)),
+    )
+}
+
+// All sessions of a text, fewer than a hundred.
+pub fn run(t: Tally, text: &[u8]) -> Tally {
+    let mut now = t;
+    let mut at = 0;
+    let mut n: usize = 0;
+    while n < 100 {
+        if text.len() <= at {
+            return now;
+        }
+        now = session(now, text, at);
+        at = behind_empty_line(text, at);
+        n += 1;
+    }
+    now
 }

@@ -1,4 +1,5 @@
 // The numbers in a session's text.
+use crate::tally::begun;
 use std::num::wrapping_add_usize;
 
 pub struct Number {
@@ -73,6 +74,41 @@ pub fn pattern(text: &[u8], from: usize) -> Number {
         n += 1;
     }
     Number { value, at }
+}
+
+// Whether a session ends at a place: an empty line or the text's end.
+pub fn ends_at(text: &[u8], at: usize) -> bool {
+    if at < text.len() {
+        text[at] == 10
+    } else {
+        true
+    }
+}
+
+// The place behind the next empty line.
+pub fn behind_empty_line(text: &[u8], from: usize) -> usize {
+    let mut at = from;
+    let mut new_line = false;
+    while at < text.len() {
+        let line_end = text[at] == 10;
+        at += 1;
+        if new_line && line_end {
+            return at;
+        }
+        new_line = line_end;
+    }
+    at
+}
+
+// Prints a session's name: what stands before its first number.
+pub fn name(text: &[u8], at: usize) {
+    let to = digit_from(text, at);
+    if at < to {
+        let end = to - 1;
+        if end <= text.len() {
+            begun(&text[at..end]);
+        }
+    }
 }
 
 // What a line of a session calls.

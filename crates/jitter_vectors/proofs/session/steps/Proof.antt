@@ -7,16 +7,19 @@ use Rattle.jitter_vectors.proofs.session.steps.Statement.{statement}
 use Rattle.jitter_vectors.proofs.session.steps.Tie as tie
 
 abbrev Inv-loop : tie.InvT-loop
-Inv-loop z fs₀ us₀ text j₀ at₀ n₀ fs us j at n = (length fs ≡ length fs₀) × (length us ≡ length us₀) × (n ≤ 100)
+Inv-loop z fs₀ us₀ text from j₀ at₀ n₀ fs us j at n = (length fs ≡ length fs₀) × (length us ≡ length us₀) × (n ≤ 100)
 
 abbrev μ-loop : tie.MeasureT-loop
-μ-loop z fs₀ us₀ text j₀ at₀ n₀ fs us j at n = 100 - n
+μ-loop z fs₀ us₀ text from j₀ at₀ n₀ fs us j at n = 100 - n
 
 new-requires : tie.Need-new-requires Inv-loop μ-loop
 new-requires c κs = search needs
 
 loop-holds : tie.Need-loop-holds Inv-loop μ-loop
 loop-holds c = search needs
+
+ends-at-requires : tie.Need-ends-at-requires Inv-loop μ-loop
+ends-at-requires c κs = search needs
 
 same-length : tie.Need-same-length Inv-loop μ-loop
 same-length c = search needs
@@ -74,6 +77,7 @@ steps-spec =
     μ-loop
     new-requires
     loop-holds
+    ends-at-requires
     same-length
     same-length-2
     returns
