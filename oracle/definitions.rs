@@ -2,12 +2,11 @@
 // Arguments: a seed and the number of sessions. See definitions.sh.
 #![allow(warnings)]
 include!("rigflow.rs");
+mod original;
 
-use audio::jitter_buffer::JitterBuffer;
 use audio_metrics::AudioMetrics;
-use net::udp::*;
-use std::sync::{Arc, Mutex};
-use ui::state::UiState;
+use original::{Original, Settings};
+use std::sync::Arc;
 
 struct Random(u64);
 
@@ -64,13 +63,7 @@ fn list<T: std::fmt::Display>(items: &[T]) -> String {
 
 // One receiver of the original, with the calls made so far and the numbers that they gave.
 struct Session {
-    jitter: [Arc<Mutex<JitterBuffer>>; 2],
-    picture: [Arc<Mutex<Vec<u32>>>; 2],
-    spectrum: [Arc<Mutex<Vec<f32>>>; 2],
-    row: [WaterfallReassembler; 2],
-    smooth: [Vec<f32>; 2],
-    ui: Arc<Mutex<UiState>>,
-    stats: Arc<Mutex<MediaPacketStats>>,
+    original: Original,
     metrics: Arc<AudioMetrics>,
     calls: Vec<String>,
     numbers: Vec<u64>,
@@ -78,35 +71,8 @@ struct Session {
 
 impl Session {
     fn new(packet: usize, target: usize, max: usize, e: &[u32; 6]) -> Session {
-        let e = e.map(f32::from_bits);
-        let buffer = || Arc::new(Mutex::new(JitterBuffer::new(packet, target, max)));
-        let picture = || Arc::new(Mutex::new(vec![0u32; 8]));
-        let spectrum = || Arc::new(Mutex::new(vec![]));
         Session {
-            jitter: [buffer(), buffer()],
-            picture: [picture(), picture()],
-            spectrum: [spectrum(), spectrum()],
-            row: [WaterfallReassembler::new(), WaterfallReassembler::new()],
-            smooth: [vec![], vec![]],
-            ui: Arc::new(Mutex::new(UiState {
-                adaptive_waterfall_normalization: false,
-                manual_waterfall_top_db: -35.0,
-                manual_waterfall_range_db: 70.0,
-                adaptive_top_db_estimate: e[0],
-                adaptive_floor_db_estimate: e[1],
-                adaptive_range_db_estimate: e[2],
-                display_zoom: 1.0,
-                waterfall_smoothing: 0.0,
-                vfo_b_adaptive_waterfall_normalization: false,
-                vfo_b_manual_waterfall_top_db: -35.0,
-                vfo_b_manual_waterfall_range_db: 70.0,
-                vfo_b_adaptive_top_db_estimate: e[3],
-                vfo_b_adaptive_floor_db_estimate: e[4],
-                vfo_b_adaptive_range_db_estimate: e[5],
-                vfo_b_display_zoom: 1.0,
-                vfo_b_waterfall_smoothing: 0.0,
-            })),
-            stats: Arc::new(Mutex::new(MediaPacketStats::new())),
+            original: Original::new(packet, target, max, e.map(f32::from_bits)),
             metrics: AudioMetrics::new(),
             calls: vec![],
             numbers: vec![],
@@ -114,26 +80,7 @@ impl Session {
     }
 
     fn datagram(&mut self, d: &[u8]) {
-        let [row_a, row_b] = &mut self.row;
-        let [smooth_a, smooth_b] = &mut self.smooth;
-        handle_media_packet(
-            d,
-            &self.jitter[0],
-            &self.picture[0],
-            &self.spectrum[0],
-            &self.ui,
-            &self.stats,
-            &mut cw_decode::CwDecoder,
-            &digital_rx::DigitalRxOutput,
-            &tci_server::TciRxAudio,
-            row_a,
-            smooth_a,
-            &self.jitter[1],
-            &self.picture[1],
-            &self.spectrum[1],
-            row_b,
-            smooth_b,
-        );
+        self.original.datagram(d);
         self.calls.push(format!("datagram ({})", list(d)));
     }
 
@@ -189,14 +136,14 @@ impl Session {
         let n = r.below(2 * packet as u64 + 2) as usize;
         let b = r.one_in(3) as usize;
         let mut out = vec![9f32; n];
-        self.jitter[b].lock().unwrap().pop_samples(&mut out);
+        self.original.jitter[b].lock().unwrap().pop_samples(&mut out);
         self.numbers.extend(out.iter().map(|x| bits(*x)));
         self.calls.push(format!("play {} {}", ["A", "B"][b], n));
     }
 
     fn reset(&mut self, r: &mut Random) {
         let b = r.one_in(2) as usize;
-        self.jitter[b].lock().unwrap().reset();
+        self.original.jitter[b].lock().unwrap().reset();
         self.calls.push(format!("reset {}", ["A", "B"][b]));
     }
 
@@ -207,20 +154,7 @@ impl Session {
         let range = [0.0, -5.0, r.below(100) as f32, r.below(100) as f32][r.below(4) as usize];
         let zoom = [0.5f32, 1.0, 2.0, 2.5, 4.0, 9.0, 1.3, -1.0][r.below(8) as usize];
         let smoothing = [0f32, 0.5, 1.0, 2.0, -1.0, 0.3, 0.9][r.below(7) as usize];
-        let mut u = self.ui.lock().unwrap();
-        if b {
-            u.vfo_b_adaptive_waterfall_normalization = adaptive;
-            u.vfo_b_manual_waterfall_top_db = top;
-            u.vfo_b_manual_waterfall_range_db = range;
-            u.vfo_b_display_zoom = zoom;
-            u.vfo_b_waterfall_smoothing = smoothing;
-        } else {
-            u.adaptive_waterfall_normalization = adaptive;
-            u.manual_waterfall_top_db = top;
-            u.manual_waterfall_range_db = range;
-            u.display_zoom = zoom;
-            u.waterfall_smoothing = smoothing;
-        }
+        self.original.set(b as usize, Settings { adaptive, top, range, zoom, smoothing });
         let [top, range, zoom, smoothing] = [top, range, zoom, smoothing].map(bits);
         self.calls.push(format!(
             "set {} (record {{ adaptive = {}; top = {}; range = {}; zoom = {}; smoothing = {} }})",
@@ -278,32 +212,30 @@ impl Session {
     // the final state, in the order of `digest` in definitions.sh
     fn close(&mut self) {
         let out = &mut self.numbers;
-        for j in &self.jitter {
+        let o = &self.original;
+        for j in &o.jitter {
             let j = j.lock().unwrap();
             out.extend([j.packets_received, j.packets_inserted, j.packets_missing_concealed]);
             out.extend([j.packets_dropped_late, j.packets_dropped_overflow, j.packets_dropped_invalid_size]);
             out.extend([j.resync_count, j.max_buffered_samples() as u64, j.buffered_samples() as u64]);
         }
-        let s = self.stats.lock().unwrap();
+        let s = o.stats.lock().unwrap();
         out.extend([s.incoming_packets, s.audio_packets, s.waterfall_packets, s.dropped_audio_packets]);
         out.extend([s.dropped_waterfall_packets, s.late_audio_packets, s.late_waterfall_packets]);
-        for s in &self.spectrum {
+        for s in &o.spectrum {
             out.extend(s.lock().unwrap().iter().map(|x| bits(*x)));
             out.push(77);
         }
-        for s in &self.smooth {
+        for s in &o.smooth {
             out.extend(s.iter().map(|x| bits(*x)));
             out.push(77);
         }
-        for p in &self.picture {
+        for p in &o.picture {
             out.extend(p.lock().unwrap().iter().map(|x| *x as u64));
         }
-        let u = self.ui.lock().unwrap();
-        out.extend([u.adaptive_top_db_estimate, u.adaptive_floor_db_estimate, u.adaptive_range_db_estimate].map(bits));
-        out.extend(
-            [u.vfo_b_adaptive_top_db_estimate, u.vfo_b_adaptive_floor_db_estimate, u.vfo_b_adaptive_range_db_estimate]
-                .map(bits),
-        );
+        for channel in 0..2 {
+            out.extend(o.estimates(channel).map(bits));
+        }
         let m = &self.metrics;
         for reading in [m.clock_offset_ms(), m.rtt_ms(), m.rx_one_way_ms()] {
             out.push(reading.map_or(1, bits));

@@ -9,7 +9,7 @@ seed=${2:-1}
 count=${3:-100}
 work=$(mktemp -d)
 trap 'rm -rf "$work"' EXIT
-cp "$here"/rigflow.rs "$here"/definitions.rs "$work"
+cp "$here"/rigflow.rs "$here"/original.rs "$here"/definitions.rs "$work"
 ln -s "$sources" "$work/rigflow"
 rustc --edition 2021 -O -A warnings -o "$work/definitions" "$work/definitions.rs"
 mkdir -p "$work/model/src" "$work/model/proofs"
