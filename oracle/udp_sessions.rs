@@ -228,18 +228,6 @@ fn estimates() {
     s.set(|d| d.adaptive = true);
     s.row(4, &[-3e38, 3e38, 1e-40, -1e-40, 7.5]);
     s.row(5, &[3e38, 3e38, 3e38, 3e38, 3e38]);
-
-    let mut s = Session::new("65535 bins", 65535, QUIET);
-    s.set(|d| {
-        d.adaptive = true;
-        d.smoothing = 0.5;
-    });
-    for (number, rule) in [(1, 0), (2, 1)] {
-        for first in [0, 16378, 32756, 49134] {
-            s.ruled(rule, number, 65535, first, 16378);
-        }
-        s.ruled(rule, number, 65535, 65512, 23);
-    }
 }
 
 fn smoothing() {
@@ -323,6 +311,20 @@ fn colours() {
     }
 }
 
+fn long_rows() {
+    let mut s = Session::new("65535 bins", 65535, QUIET);
+    s.set(|d| {
+        d.adaptive = true;
+        d.smoothing = 0.5;
+    });
+    for (number, rule) in [(1, 0), (2, 1)] {
+        for first in [0, 16378, 32756, 49134] {
+            s.ruled(rule, number, 65535, first, 16378);
+        }
+        s.ruled(rule, number, 65535, 65512, 23);
+    }
+}
+
 fn main() {
     match WIDTH {
         4 => {
@@ -338,6 +340,7 @@ fn main() {
             levels();
             colours();
             counts();
+            long_rows();
         }
     }
 }

@@ -1,6 +1,6 @@
--- Where question 3 is answered with yes and the f32 part is long enough, a call may act. Assumes nothing.
-use mathlib.Core.Path.{_≡_, sym, _∙_}
-use mathlib.Core.Bool.{Bool, true, _&&_}
+-- The answer to question 3 and the f32 part's length are all that a call asks, and where the answer is yes it may act. Assumes nothing.
+use mathlib.Core.Path.{_≡_, refl, sym, _∙_}
+use mathlib.Core.Bool.{Bool, true, false, _&&_}
 use mathlib.Core.List.{List}
 use Prim.Native.Nat.{ℕ, _+_, _-_, _*_, _≤_}
 use native.Mathlib.Nat.{sub-zero}
@@ -19,22 +19,60 @@ use Rattle.jitter_buffer.specs.View.{viewOf}
 use Rattle.jitter_buffer.specs.Promises.{Lent, Ready, Sized, HeldAsked}
 use Rattle.jitter_buffer.proofs.Places.{packets-length}
 use Rattle.jitter_buffer.proofs.Turns.{queue-below}
+use Rattle.jitter_checked.specs.Asked.{bufferAsked}
 
-module _ (z : Sizes) (j : JitterBuffer) (us : List ℕ) (r : Bool) (asked : (fs : List Float) → HeldAsked z j fs us mostCalls r) (answer : r ≡ true) where
+-- behind a test that fails nothing matters
+only-where : (a b r : Bool) → (a ≡ true → r ≡ b) → a && r ≡ a && b
+only-where true b r same = same refl
+only-where false b r same = refl
+
+and-false : (a : Bool) → false ≡ a && false
+and-false true = refl
+and-false false = refl
+
+and-true : (a : Bool) → a ≡ a && true
+and-true true = refl
+and-true false = refl
+
+abbrev longEnough : Sizes → List Float → Bool
+longEnough z fs = leb (queueAt (sizesOf z) + (z .target + z .packet)) (length fs)
+
+module _ (z : Sizes) (j : JitterBuffer) (us : List ℕ) (r : Bool) (asked : (fs : List Float) → HeldAsked z j fs us mostCalls r) where
+  both-asked : (fs : List Float) → longEnough z fs && r ≡ bufferAsked z j fs us
+  unfolding bufferAsked
+  both-asked fs = only-where (longEnough z fs) _ r (λ long. asked fs (leb-true (queueAt (sizesOf z) + (z .target + z .packet)) (length fs) long))
+
+  pub not-held : r ≡ false → (fs : List Float) → false ≡ bufferAsked z j fs us
+  not-held refused fs = and-false (longEnough z fs) ∙ (rw refused at (both-asked fs))
+
+  pub length-left : r ≡ true → (fs : List Float) → leb (queueAt (sizesOf z) + (z .target + z .packet)) (length fs) ≡ bufferAsked z j fs us
+  length-left held fs = and-true (longEnough z fs) ∙ (rw held at (both-asked fs))
+
   -- the sizes are allowed whatever the f32 part is
-  pub asked-allowed : sizesAllowed (sizesOf z) ≡ true
-  asked-allowed =
+  pub asked-allowed : r ≡ true → sizesAllowed (sizesOf z) ≡ true
+  asked-allowed held =
       let n = queueAt (sizesOf z) + (z .target + z .packet) in
       let e = asked (replicate n nan) (omega (arith, length-replicate n nan)) in
-      first-of-both (sizesAllowed (sizesOf z)) _ (sym e ∙ answer)
+      first-of-both (sizesAllowed (sizesOf z)) _ (sym e ∙ held)
 
-  pub asked-ready : (fs : List Float) → queueAt (sizesOf z) + (z .target + z .packet) ≤ length fs → Ready z j fs us
-  asked-ready fs long =
-      let rest = second-of-both (sizesAllowed (sizesOf z)) _ (sym (asked fs long) ∙ answer) in
+module _ (z : Sizes) (j : JitterBuffer) (fs : List Float) (us : List ℕ) where
+  -- a call that asked may act
+  pub asked-ready : {r : Bool} → r ≡ bufferAsked z j fs us → r ≡ true → Ready z j fs us
+  unfolding bufferAsked
+  asked-ready asked held =
+      let answer = sym asked ∙ held in
+      let long = longEnough z fs in
+      let allowed = sizesAllowed (sizesOf z) in
+      let words = leb (mostWaiting (sizesOf z)) (length us) in
+      let rest = second-of-both long _ answer in
+      let last = second-of-both allowed _ rest in
       record {
-        allowed = asked-allowed;
-        held = second-of-both (leb (mostWaiting (sizesOf z)) (length us)) _ rest;
-        lent = record { floats = long; words = leb-true (mostWaiting (sizesOf z)) (length us) (first-of-both (leb (mostWaiting (sizesOf z)) (length us)) _ rest) };
+        allowed = first-of-both allowed _ rest;
+        held = second-of-both words _ last;
+        lent = record {
+          floats = leb-true (queueAt (sizesOf z) + (z .target + z .packet)) (length fs) (first-of-both long _ answer);
+          words = leb-true (mostWaiting (sizesOf z)) (length us) (first-of-both words _ last);
+        };
       }
 
 -- the lengths are in range where a call may act

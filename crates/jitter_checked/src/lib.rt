@@ -1,11 +1,10 @@
 // The jitter buffer's calls for whoever holds no proof of what they ask: each asks question 3 and the
 // lengths first, and refuses. For the vectors and for the comparison with the original.
 mod exports;
+pub mod words;
 
 ghost use mathlib.Core.Path.{_≡_};
-ghost use mathlib.Core.Bool.{true};
-ghost use lib.ListN.{length};
-ghost use Rattle.jitter_buffer.specs.Promises.{Ready};
+ghost use Rattle.jitter_checked.specs.Asked.{bufferAsked};
 use jitter_buffer::JitterBuffer;
 use jitter_buffer::Popped;
 use sizes::Sizes;
@@ -26,8 +25,8 @@ pub enum Amount {
 }
 
 // Whether a push and a play may act.
-fn ready(j: JitterBuffer, z: Sizes, fs: &[f32], us: &[u32]) -> bool
-    ensures { λ r. ⌜ (r ≡ true → Ready z j (now (fs .entry)) (now (us .entry))) ⌝ }
+pub fn ready(j: JitterBuffer, z: Sizes, fs: &[f32], us: &[u32]) -> bool
+    ensures { λ r. ⌜ r ≡ bufferAsked z j (now (fs .entry)) (now (us .entry)) ⌝ }
 {
     if !j.could_be_held(z, us, 4294967295) {
         return false;

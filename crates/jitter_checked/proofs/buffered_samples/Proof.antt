@@ -1,7 +1,7 @@
 -- `jitter_checked::buffered_samples` is safe: a buffer that could be held has lengths in range. Assumes nothing.
 use borrow.Author.Tests.{not-false}
 use borrow.Author.Needs.{needs}
-use Rattle.jitter_checked.proofs.Answered.{ready-sized}
+use Rattle.jitter_checked.proofs.Answered.{asked-ready, ready-sized}
 use Rattle.jitter_checked.proofs.buffered_samples.Statement.{statement}
 use Rattle.jitter_checked.proofs.buffered_samples.Tie as tie
 
@@ -12,7 +12,7 @@ returns : tie.Need-returns
 returns c = search needs
 
 buffered-samples-requires : tie.Need-buffered-samples-requires
-buffered-samples-requires c κs = ready-sized _ _ _ _ (c .before .ready .ensures (not-false _ (c .if1 .left)))
+buffered-samples-requires c κs = ready-sized _ _ _ _ (asked-ready _ _ _ _ (c .before .ready .ensures) (not-false _ (c .if1 .left)))
 
 returns-2 : tie.Need-returns-2
 returns-2 c = search needs

@@ -1,5 +1,6 @@
 -- `jitter_checked::play` is safe: what it asked is what the play requires. Assumes nothing.
 use borrow.Author.Tests.{not-false}
+use Rattle.jitter_checked.proofs.Answered.{asked-ready}
 use borrow.Author.Needs.{needs}
 use Rattle.jitter_checked.proofs.play.Statement.{statement}
 use Rattle.jitter_checked.proofs.play.Tie as tie
@@ -20,7 +21,9 @@ returns-2 : tie.Need-returns-2
 returns-2 c = search needs
 
 pop-samples-requires : tie.Need-pop-samples-requires
-pop-samples-requires c κs = (c .before .before .before .before .ready .ensures (not-false _ (c .before .before .before .if2 .left)), c .before .before .before .before .before .before .before .if1 .left)
+pop-samples-requires c κs =
+    let k = c .before .before .before in
+    (asked-ready _ _ _ _ (k .before .ready .ensures) (not-false _ (k .if2 .left)), k .before .before .before .before .if1 .left)
 
 same-length-3 : tie.Need-same-length-3
 same-length-3 c = search needs

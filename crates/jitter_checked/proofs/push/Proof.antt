@@ -1,5 +1,6 @@
 -- `jitter_checked::push` is safe: what it asked is what the push requires. Assumes nothing.
 use borrow.Author.Tests.{not-false}
+use Rattle.jitter_checked.proofs.Answered.{asked-ready}
 use borrow.Author.Needs.{needs}
 use Rattle.jitter_checked.proofs.push.Statement.{statement}
 use Rattle.jitter_checked.proofs.push.Tie as tie
@@ -17,7 +18,9 @@ returns : tie.Need-returns
 returns c = search needs
 
 push-packet-requires : tie.Need-push-packet-requires
-push-packet-requires c κs = c .before .before .before .ready .ensures (not-false _ (c .before .before .if1 .left))
+push-packet-requires c κs =
+    let k = c .before .before .before in
+    asked-ready _ _ _ _ (k .ready .ensures) (not-false _ (c .before .before .if1 .left))
 
 same-length-3 : tie.Need-same-length-3
 same-length-3 c = search needs

@@ -1,11 +1,10 @@
 -- `jitter_checked::ready` meets its contract. Assumes nothing.
-use mathlib.Core.Path.{_≡_, refl, sym, _∙_, ap}
-use native.Mathlib.Omega.{arith}
+use mathlib.Core.Path.{_≡_, sym, _∙_, ap}
 use lib.ListN.{length}
-use borrow.Author.Tests.{not-false, leb-true}
-use Rattle.model.proofs.BoolLaws.{clash}
+use lib.Dec.{leb}
+use borrow.Author.Tests.{not-true, not-false}
 use Rattle.sizes.specs.declared.Offsets.{Offsets}
-use Rattle.jitter_checked.proofs.Answered.{asked-allowed, asked-ready}
+use Rattle.jitter_checked.proofs.Answered.{not-held, length-left, asked-allowed}
 use borrow.Author.Needs.{needs}
 use Rattle.jitter_checked.proofs.ready.Statement.{statement}
 use Rattle.jitter_checked.proofs.ready.Tie as tie
@@ -14,7 +13,10 @@ could-be-held-requires : tie.Need-could-be-held-requires
 could-be-held-requires c κs = search needs
 
 returns : tie.Need-returns
-returns c = λ e. clash (cc)
+returns c =
+    let g = c .before .before .before .before .args in
+    let h = c .before .could-be-held in
+    not-held (g .z) (g .j) (g .us .now) (h .result) (h .ensures) (not-true _ (c .if1 .taken)) (g .fs .now)
 
 section-offsets-requires : tie.Need-section-offsets-requires
 section-offsets-requires c κs =
@@ -27,7 +29,8 @@ returns-2 c =
     let g = c .before .before .before .before .before .before .args in
     let h = c .before .before .before .could-be-held in
     let row = ap (λ (o : Offsets). o .row) (c .before .section-offsets .ensures) in
-    λ e. asked-ready (g .z) (g .j) (g .us .now) (h .result) (h .ensures) (not-false _ (c .before .before .if1 .left)) (g .fs .now) (rw row at (leb-true (c .before .section-offsets .result .row) (length (g .fs .now)) e))
+    ap (λ n. leb n (length (g .fs .now))) row
+    ∙ length-left (g .z) (g .j) (g .us .now) (h .result) (h .ensures) (not-false _ (c .before .before .if1 .left)) (g .fs .now)
 
 pub ready-spec : {M : Type 1} → statement M
 ready-spec = tie.close (tie.spec could-be-held-requires returns section-offsets-requires returns-2)

@@ -6,9 +6,9 @@ use Rattle.jitter_checked.proofs.exports.jitter_play.Statement.{stateme
 use Rattle.jitter_checked.proofs.exports.jitter_play.Tie as tie
 use Rattle.jitter_checked.proofs.exports.jitter_play.Reads as reads
 use Rattle.jitter_checked.proofs.exports.jitter_play.Lts as lts
-use Rattle.jitter_checked.proofs.exports.buffer_of.Reads as buffer-of-reads
-use Rattle.jitter_checked.proofs.exports.sizes_of.Reads as sizes-of-reads
-use Rattle.jitter_checked.proofs.exports.write_state.Reads as write-state-reads
+use Rattle.jitter_checked.proofs.words.buffer_of.Reads as buffer-of-reads
+use Rattle.jitter_checked.proofs.words.sizes_of.Reads as sizes-of-reads
+use Rattle.jitter_checked.proofs.words.write_state.Reads as write-state-reads
 use Rattle.jitter_checked.proofs.play.Reads as play-reads
 
 -- src/exports.rt:117:9

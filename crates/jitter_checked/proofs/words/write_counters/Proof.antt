@@ -1,49 +1,39 @@
--- `jitter_checked::exports::write_counters` is safe: a store keeps the length. Assumes nothing.
+-- `jitter_checked::words::write_counters` is safe: a store keeps the length. Assumes nothing.
 use native.Mathlib.Omega.{arith}
 use lib.ListN.{length-set}
 use borrow.Author.Needs.{needs}
-use Rattle.jitter_checked.proofs.exports.write_counters.Statement.{statement}
-use Rattle.jitter_checked.proofs.exports.write_counters.Tie as tie
-use Rattle.jitter_checked.proofs.exports.write_counters.Reads as reads
-use Rattle.jitter_checked.proofs.exports.write_counters.Lts as lts
+use Rattle.jitter_checked.proofs.words.write_counters.Statement.{statement}
+use Rattle.jitter_checked.proofs.words.write_counters.Tie as tie
+use Rattle.jitter_checked.proofs.words.write_counters.Reads as reads
+use Rattle.jitter_checked.proofs.words.write_counters.Lts as lts
 
--- src/exports.rt:82:5
 slice-write-w : tie.Need-slice-write-w
 slice-write-w c = search needs
 
--- src/exports.rt:83:5
 slice-write-w-2 : tie.Need-slice-write-w-2
 slice-write-w-2 c = simp length-set (omega arith)
 
--- src/exports.rt:84:5
 slice-write-w-3 : tie.Need-slice-write-w-3
 slice-write-w-3 c = simp length-set (omega arith)
 
--- src/exports.rt:85:5
 slice-write-w-4 : tie.Need-slice-write-w-4
 slice-write-w-4 c = simp length-set (omega arith)
 
--- src/exports.rt:86:5
 slice-write-w-5 : tie.Need-slice-write-w-5
 slice-write-w-5 c = simp length-set (omega arith)
 
--- src/exports.rt:87:5
 slice-write-w-6 : tie.Need-slice-write-w-6
 slice-write-w-6 c = simp length-set (omega arith)
 
--- src/exports.rt:88:5
 slice-write-w-7 : tie.Need-slice-write-w-7
 slice-write-w-7 c = simp length-set (omega arith)
 
--- src/exports.rt:89:5
 slice-write-w-8 : tie.Need-slice-write-w-8
 slice-write-w-8 c = search needs
 
--- src/exports.rt:79:1
 same-length : tie.Need-same-length
 same-length c = search needs
 
--- src/exports.rt:79:1
 returns : tie.Need-returns
 returns c = search needs
 
