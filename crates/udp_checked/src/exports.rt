@@ -1,0 +1,228 @@
+// The calls for Rust and C, under prefixed names, with a state in numbers.
+//   a channel's screen: whether there is a row, its number, total, filled bins and whether it is done; the lengths of the
+//   spectrum and of smoothing; adaptive
+//   its display: top, range, zoom and smoothing, then the estimates of top, floor and range
+//   a jitter buffer: as in jitter_checked::words
+//   a stream's counts: packets, dropped and late, then whether there was a last sequence, and that
+ghost use Prim.Native.Nat.{_≤_};
+ghost use lib.ListN.{length};
+use jitter_checked::words::buffer_of;
+use jitter_checked::words::sizes_of;
+use jitter_checked::words::write_state;
+use udp::Display;
+use udp::LastSequence;
+use udp::StreamCounts;
+use udp::packets::Screen;
+use udp::reassembler::CompletedRow;
+use udp::reassembler::OpenRow;
+use udp::reassembler::RowState;
+
+fn row_of(w: &[u64]) -> RowState
+    requires { ⌜ 8 ≤ length (now w) ⌝ }
+{
+    if w[0] == 0 {
+        return RowState::NoRow;
+    }
+    RowState::Open(OpenRow {
+        row_seq: (w[1] % 65536) as u16,
+        total_bins: w[2] as usize,
+        filled: w[3] as usize,
+        done: w[4] != 0,
+    })
+}
+
+fn display_of(adaptive: u64, d: &[f32]) -> Display
+    requires { ⌜ 7 ≤ length (now d) ⌝ }
+{
+    Display {
+        adaptive: adaptive != 0,
+        top: d[0],
+        range: d[1],
+        zoom: d[2],
+        smoothing: d[3],
+        top_estimate: d[4],
+        floor_estimate: d[5],
+        range_estimate: d[6],
+    }
+}
+
+fn screen_of(w: &[u64], d: &[f32]) -> Screen
+    requires { ⌜ (8 ≤ length (now w)) × (7 ≤ length (now d)) ⌝ }
+{
+    let row = row_of(w);
+    let display = display_of(w[7], d);
+    Screen {
+        row,
+        spectrum_len: w[5] as usize,
+        smooth_len: w[6] as usize,
+        display,
+    }
+}
+
+fn write_row(w: &mut [u64], row: RowState)
+    requires { ⌜ 8 ≤ length (now w) ⌝ }
+{
+    match row {
+        RowState::NoRow => {
+            w[0] = 0;
+        }
+        RowState::Open(r) => {
+            w[0] = 1;
+            w[1] = r.row_seq as u64;
+            w[2] = r.total_bins as u64;
+            w[3] = r.filled as u64;
+            w[4] = r.done as u64;
+        }
+    }
+}
+
+// Of the display only the estimates change.
+fn write_estimates(d: &mut [f32], display: Display)
+    requires { ⌜ 7 ≤ length (now d) ⌝ }
+{
+    d[4] = display.top_estimate;
+    d[5] = display.floor_estimate;
+    d[6] = display.range_estimate;
+}
+
+fn write_screen(w: &mut [u64], d: &mut [f32], screen: Screen)
+    requires { ⌜ (8 ≤ length (now w)) × (7 ≤ length (now d)) ⌝ }
+{
+    let row = screen.row;
+    let display = screen.display;
+    write_row(w, row);
+    w[5] = screen.spectrum_len as u64;
+    w[6] = screen.smooth_len as u64;
+    write_estimates(d, display);
+}
+
+fn completed_word(completed: CompletedRow) -> u64 {
+    match completed {
+        CompletedRow::NoRow => 1,
+        CompletedRow::Bins(n) => std::num::wrapping_add_u64(n as u64, 2),
+    }
+}
+
+// 0: refused; 1: no row completed; 2 and more: 2 and the bins of the row that was completed.
+#[no_mangle]
+pub extern "C" fn udp_handle_waterfall_packet(
+    sizes: &[usize],
+    state: &mut [u64],
+    display: &mut [f32],
+    rows: &mut [f32],
+    work: usize,
+    picture: &mut [u32],
+    payload: &[u8],
+) -> u64 {
+    if sizes.len() < 6 {
+        return 0;
+    }
+    if state.len() < 8 {
+        return 0;
+    }
+    if display.len() < 7 {
+        return 0;
+    }
+    let z = sizes_of(sizes);
+    let screen = screen_of(state, display);
+    let handled = crate::handle_waterfall_packet(screen, z, rows, work, picture, payload);
+    match handled {
+        crate::Waterfall::Refused => 0,
+        crate::Waterfall::Done(h) => {
+            let after = h.screen;
+            let completed = h.completed;
+            write_screen(state, display, after);
+            completed_word(completed)
+        }
+    }
+}
+
+// false: refused.
+#[no_mangle]
+pub extern "C" fn udp_handle_audio_packet(
+    sizes: &[usize],
+    state: &mut [u64],
+    fs: &mut [f32],
+    us: &mut [u32],
+    sequence: u32,
+    payload: &[u8],
+) -> bool {
+    if sizes.len() < 6 {
+        return false;
+    }
+    if state.len() < 14 {
+        return false;
+    }
+    let z = sizes_of(sizes);
+    let j = buffer_of(state);
+    let handled = crate::handle_audio_packet(j, z, fs, us, sequence, payload);
+    match handled {
+        crate::Audio::Refused => false,
+        crate::Audio::Done(after) => {
+            write_state(state, after);
+            true
+        }
+    }
+}
+
+fn last_of(known: u64, last: u64) -> LastSequence {
+    if known == 0 {
+        LastSequence::Unknown
+    } else {
+        LastSequence::Known((last % 4294967296) as u32)
+    }
+}
+
+fn counts_of(w: &[u64]) -> StreamCounts
+    requires { ⌜ 5 ≤ length (now w) ⌝ }
+{
+    let last = last_of(w[3], w[4]);
+    StreamCounts {
+        packets: w[0],
+        dropped: w[1],
+        late: w[2],
+        last,
+    }
+}
+
+fn known_word(last: LastSequence) -> u64 {
+    match last {
+        LastSequence::Unknown => 0,
+        LastSequence::Known(_) => 1,
+    }
+}
+
+fn last_word(last: LastSequence) -> u64 {
+    match last {
+        LastSequence::Unknown => 0,
+        LastSequence::Known(s) => s as u64,
+    }
+}
+
+fn write_counts(w: &mut [u64], c: StreamCounts)
+    requires { ⌜ 5 ≤ length (now w) ⌝ }
+{
+    let last = c.last;
+    w[0] = c.packets;
+    w[1] = c.dropped;
+    w[2] = c.late;
+    w[3] = known_word(last);
+    w[4] = last_word(last);
+}
+
+// false: refused.
+#[no_mangle]
+pub extern "C" fn udp_update_sequence_stats(counts: &mut [u64], sequence: u32) -> bool {
+    if counts.len() < 5 {
+        return false;
+    }
+    let c = counts_of(counts);
+    let counted = crate::update_sequence_stats(c, sequence);
+    match counted {
+        crate::Counted::Refused => false,
+        crate::Counted::Done(after) => {
+            write_counts(counts, after);
+            true
+        }
+    }
+}
