@@ -18,32 +18,34 @@ least-requires c κs = search needs
 sub-short : tie.Need-sub-short
 sub-short c = search needs
 
+sub-rest : tie.Need-sub-rest
+sub-rest c = search needs
+
 section-offsets-requires : tie.Need-section-offsets-requires
 section-offsets-requires c κs = search needs
 
 add-from : tie.Need-add-from
-add-from c = omega (arith, ap (λ (o : Offsets). o .queue) (c .section-offsets .ensures), queue-low _ (c .before .before .before .before .before .pre .allowed), allowed _ (c .before .before .before .before .before .pre .allowed), c .before .before .before .before .before .pre)
+add-from c =
+    let s = c .before .before .before .before .before in
+    omega (arith, ap (λ (o : Offsets). o .queue) (c .section-offsets .ensures), queue-low _ (s .pre .allowed), allowed _ (s .pre .allowed), s .pre)
+
+add-after : tie.Need-add-after
+add-after c =
+    let s = c .before .before .before .before .before in
+    omega (arith, ap (λ (o : Offsets). o .queue) (c .section-offsets .ensures), c .before .least .ensures, queue-low _ (s .pre .allowed), allowed _ (s .pre .allowed), s .pre)
 
 copy-requires : tie.Need-copy-requires
 copy-requires c κs =
-    omega (arith, ap (λ (o : Offsets). o .queue) (c .before .before .section-offsets .ensures), c .before .before .before .least .ensures, c .before .before .before .before .before .before .before .pre)
+    let k = c .before .before in
+    omega (arith, ap (λ (o : Offsets). o .queue) (k .section-offsets .ensures), k .before .least .ensures, k .before .before .before .before .before .pre)
 
 fill-requires : tie.Need-fill-requires
 fill-requires c κs = search needs
 
-add-move-down : tie.Need-add-move-down
-add-move-down c =
-    omega (arith, ap (λ (o : Offsets). o .queue) (c .before .before .before .before .before .before .before .before .before .before .section-offsets .ensures), c .before .before .before .before .before .before .before .before .before .before .before .least .ensures, queue-low _ (c .before .before .before .before .before .before .before .before .before .before .before .before .before .before .before .pre .allowed), allowed _ (c .before .before .before .before .before .before .before .before .before .before .before .before .before .before .before .pre .allowed), c .before .before .before .before .before .before .before .before .before .before .before .before .before .before .before .pre)
-
-sub-move-down : tie.Need-sub-move-down
-sub-move-down c = search needs
-
 move-down-requires : tie.Need-move-down-requires
 move-down-requires c κs =
-    omega (arith, ap (λ (o : Offsets). o .queue) (c .before .before .before .before .before .before .before .before .before .before .section-offsets .ensures), c .before .before .before .before .before .before .before .before .before .before .before .least .ensures, c .before .before .before .before .before .before .before .before .before .before .before .before .before .before .before .pre)
-
-sub-b : tie.Need-sub-b
-sub-b c = search needs
+    let k = c .before .before .before .before .before .before .before .before .before .before in
+    omega (arith, ap (λ (o : Offsets). o .queue) (k .section-offsets .ensures), k .before .least .ensures, k .before .before .before .before .before .pre)
 
 add-b : tie.Need-add-b
 add-b c = search needs
@@ -57,9 +59,10 @@ same-length-2 c = search needs
 returns : tie.Need-returns
 unfolding ofBits
 returns c =
-    let q = ap (λ (o : Offsets). o .queue) (c .before .before .before .before .before .before .before .before .before .before .before .before .before .before .section-offsets .ensures) in
+    let k = c .before .before .before .before .before .before .before .before .before .before .before .before .before .before in
+    let q = ap (λ (o : Offsets). o .queue) (k .section-offsets .ensures) in
     record {
-      took = c .before .before .before .before .before .before .before .before .before .before .before .before .before .before .before .least .ensures;
+      took = k .before .least .ensures;
       drops = refl;
       lacks = refl;
       buffer = refl;
@@ -74,14 +77,13 @@ hand-out-spec =
     sub-left
     least-requires
     sub-short
+    sub-rest
     section-offsets-requires
     add-from
+    add-after
     copy-requires
     fill-requires
-    add-move-down
-    sub-move-down
     move-down-requires
-    sub-b
     add-b
     same-length
     same-length-2
