@@ -5,6 +5,7 @@ pub mod words;
 
 ghost use mathlib.Core.Path.{_≡_};
 ghost use Rattle.jitter_checked.specs.Asked.{bufferAsked};
+ghost use Rattle.jitter_checked.specs.Promises.{PushChecked, PlayChecked, AmountChecked};
 use jitter_buffer::JitterBuffer;
 use jitter_buffer::Popped;
 use sizes::Sizes;
@@ -42,14 +43,18 @@ pub fn push(
     us: &mut [u32],
     sequence: u32,
     payload: &[u8],
-) -> Pushed {
+) -> Pushed
+    ensures { λ r. ⌜ PushChecked z j (now (fs .entry)) (now (us .entry)) sequence (now (payload .entry)) r (now (fs .exit)) (now (us .exit)) ⌝ }
+{
     if !ready(j, z, fs, us) {
         return Pushed::Refused;
     }
     Pushed::Done(j.push_packet(z, fs, us, sequence, payload))
 }
 
-pub fn play(j: JitterBuffer, z: Sizes, fs: &mut [f32], us: &mut [u32], out: &mut [f32]) -> Played {
+pub fn play(j: JitterBuffer, z: Sizes, fs: &mut [f32], us: &mut [u32], out: &mut [f32]) -> Played
+    ensures { λ r. ⌜ PlayChecked z j (now (fs .entry)) (now (us .entry)) (now (out .entry)) r (now (fs .exit)) (now (us .exit)) (now (out .exit)) ⌝ }
+{
     if 65535 < out.len() {
         return Played::Refused;
     }
@@ -60,7 +65,9 @@ pub fn play(j: JitterBuffer, z: Sizes, fs: &mut [f32], us: &mut [u32], out: &mut
 }
 
 // The buffered amount.
-pub fn buffered_samples(j: JitterBuffer, z: Sizes, fs: &[f32], us: &[u32]) -> Amount {
+pub fn buffered_samples(j: JitterBuffer, z: Sizes, fs: &[f32], us: &[u32]) -> Amount
+    ensures { λ r. ⌜ AmountChecked z j (now (fs .entry)) (now (us .entry)) r ⌝ }
+{
     if !ready(j, z, fs, us) {
         return Amount::Refused;
     }
