@@ -1,4 +1,5 @@
 // The calls for Rust and C, under prefixed names. A state is 14 numbers, as in `words`.
+ghost use Rattle.jitter_checked.specs.Promises.{PushExported, PlayExported, ResetExported};
 use crate::words::buffer_of;
 use crate::words::sizes_of;
 use crate::words::write_state;
@@ -12,7 +13,9 @@ pub extern "C" fn jitter_push(
     us: &mut [u32],
     sequence: u32,
     payload: &[u8],
-) -> bool {
+) -> bool
+    ensures { λ r. ⌜ PushExported (now (sizes .entry)) (now (state .entry)) (now (fs .entry)) (now (us .entry)) sequence (now (payload .entry)) (now (state .exit)) (now (fs .exit)) (now (us .exit)) r ⌝ }
+{
     if sizes.len() < 6 {
         return false;
     }
@@ -40,14 +43,16 @@ pub extern "C" fn jitter_play(
     us: &mut [u32],
     out: &mut [f32],
     answer: &mut [u64],
-) -> bool {
+) -> bool
+    ensures { λ r. ⌜ PlayExported (now (sizes .entry)) (now (state .entry)) (now (fs .entry)) (now (us .entry)) (now (out .entry)) (now (answer .entry)) (now (state .exit)) (now (fs .exit)) (now (us .exit)) (now (out .exit)) (now (answer .exit)) r ⌝ }
+{
     if sizes.len() < 6 {
         return false;
     }
-    if state.len() < 14 {
+    if answer.len() < 3 {
         return false;
     }
-    if answer.len() < 3 {
+    if state.len() < 14 {
         return false;
     }
     let z = sizes_of(sizes);
@@ -67,7 +72,9 @@ pub extern "C" fn jitter_play(
 }
 
 #[no_mangle]
-pub extern "C" fn jitter_reset(state: &mut [u64]) -> bool {
+pub extern "C" fn jitter_reset(state: &mut [u64]) -> bool
+    ensures { λ r. ⌜ ResetExported (now (state .entry)) (now (state .exit)) r ⌝ }
+{
     if state.len() < 14 {
         return false;
     }

@@ -1,6 +1,9 @@
 // The sizes and a jitter buffer's state in numbers, for callers in other languages.
+ghost use mathlib.Core.Path.{_≡_};
 ghost use Prim.Native.Nat.{_≤_};
 ghost use lib.ListN.{length};
+ghost use lib.Seq.{sets};
+ghost use Rattle.jitter_checked.specs.Words.{sizesAt, nextAt, bufferAt, startedWord, nextWord, amountWords, counterWords, bufferWords};
 use jitter_buffer::JitterBuffer;
 use jitter_buffer::NextSequence;
 use sizes::Sizes;
@@ -8,6 +11,7 @@ use sizes::Sizes;
 // Packet, target, max, bins, width and height.
 pub fn sizes_of(w: &[usize]) -> Sizes
     requires { ⌜ 6 ≤ length (now w) ⌝ }
+    ensures { λ r. ⌜ r ≡ sizesAt (now (w .entry)) ⌝ }
 {
     Sizes {
         packet: w[0],
@@ -19,7 +23,9 @@ pub fn sizes_of(w: &[usize]) -> Sizes
     }
 }
 
-fn next_of(started: u64, next: u64) -> NextSequence {
+fn next_of(started: u64, next: u64) -> NextSequence
+    ensures { λ r. ⌜ r ≡ nextAt started next ⌝ }
+{
     if started == 0 {
         NextSequence::NotStarted
     } else {
@@ -31,6 +37,7 @@ fn next_of(started: u64, next: u64) -> NextSequence {
 // in the struct's order, and filled.
 pub fn buffer_of(w: &[u64]) -> JitterBuffer
     requires { ⌜ 14 ≤ length (now w) ⌝ }
+    ensures { λ r. ⌜ r ≡ bufferAt (now (w .entry)) ⌝ }
 {
     let next = next_of(w[1], w[2]);
     JitterBuffer {
@@ -50,24 +57,31 @@ pub fn buffer_of(w: &[u64]) -> JitterBuffer
     }
 }
 
-fn started_word(next: NextSequence) -> u64 {
+fn started_word(next: NextSequence) -> u64
+    ensures { λ r. ⌜ r ≡ startedWord next ⌝ }
+{
     match next {
         NextSequence::NotStarted => 0,
         NextSequence::Next(_) => 1,
     }
 }
 
-fn next_word(next: NextSequence) -> u64 {
+fn next_word(next: NextSequence) -> u64
+    ensures { λ r. ⌜ r ≡ nextWord next ⌝ }
+{
     match next {
         NextSequence::NotStarted => 0,
         NextSequence::Next(s) => s as u64,
     }
 }
 
+// The words behind the 14th stay as they are.
 pub fn write_state(w: &mut [u64], j: JitterBuffer)
     requires { ⌜ 14 ≤ length (now w) ⌝ }
+    ensures { λ _. ⌜ now (w .exit) ≡ sets (now (w .entry)) 0 (bufferWords j) ⌝ }
 {
     let next = j.next_sequence;
+    w[0] = j.max_observed_buffered_samples as u64;
     w[1] = started_word(next);
     w[2] = next_word(next);
     write_amounts(w, j);
@@ -76,8 +90,8 @@ pub fn write_state(w: &mut [u64], j: JitterBuffer)
 
 fn write_amounts(w: &mut [u64], j: JitterBuffer)
     requires { ⌜ 14 ≤ length (now w) ⌝ }
+    ensures { λ _. ⌜ now (w .exit) ≡ sets (now (w .entry)) 3 (amountWords j) ⌝ }
 {
-    w[0] = j.max_observed_buffered_samples as u64;
     w[3] = j.pending_len as u64;
     w[4] = j.playout_len as u64;
     w[5] = j.consecutive_conceals as u64;
@@ -85,6 +99,7 @@ fn write_amounts(w: &mut [u64], j: JitterBuffer)
 
 fn write_counters(w: &mut [u64], j: JitterBuffer)
     requires { ⌜ 14 ≤ length (now w) ⌝ }
+    ensures { λ _. ⌜ now (w .exit) ≡ sets (now (w .entry)) 6 (counterWords j) ⌝ }
 {
     w[6] = j.packets_received;
     w[7] = j.packets_inserted;

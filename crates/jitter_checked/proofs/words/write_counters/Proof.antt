@@ -1,11 +1,10 @@
--- `jitter_checked::words::write_counters` is safe: a store keeps the length. Assumes nothing.
+-- `jitter_checked::words::write_counters` meets its contract: the stores are the words in their order. Assumes nothing.
+use mathlib.Core.Path.{refl}
 use native.Mathlib.Omega.{arith}
 use lib.ListN.{length-set}
 use borrow.Author.Needs.{needs}
 use Rattle.jitter_checked.proofs.words.write_counters.Statement.{statement}
 use Rattle.jitter_checked.proofs.words.write_counters.Tie as tie
-use Rattle.jitter_checked.proofs.words.write_counters.Reads as reads
-use Rattle.jitter_checked.proofs.words.write_counters.Lts as lts
 
 slice-write-w : tie.Need-slice-write-w
 slice-write-w c = search needs
@@ -35,7 +34,7 @@ same-length : tie.Need-same-length
 same-length c = search needs
 
 returns : tie.Need-returns
-returns c = search needs
+returns c = refl
 
 pub write-counters-spec : {M : Type 1} → statement M
 write-counters-spec =

@@ -1,28 +1,25 @@
--- `jitter_checked::words::write_state` is safe: a store keeps the length. Assumes nothing.
-use borrow.Author.Needs.{needs}
+-- `jitter_checked::words::write_state` meets its contract: the three writes are the words in their order. Assumes nothing.
 use mathlib.Core.Path.{_∙_}
 use native.Mathlib.Omega.{arith}
 use lib.ListN.{length-set}
+use borrow.Author.Needs.{needs}
 use Rattle.jitter_checked.proofs.words.write_state.Statement.{statement}
 use Rattle.jitter_checked.proofs.words.write_state.Tie as tie
-use Rattle.jitter_checked.proofs.words.write_state.Reads as reads
-use Rattle.jitter_checked.proofs.words.write_state.Lts as lts
-use Rattle.jitter_checked.proofs.words.next_word.Reads as next-word-reads
-use Rattle.jitter_checked.proofs.words.started_word.Reads as started-word-reads
-use Rattle.jitter_checked.proofs.words.write_amounts.Reads as write-amounts-reads
-use Rattle.jitter_checked.proofs.words.write_counters.Reads as write-counters-reads
-
-started-word-requires : tie.Need-started-word-requires
-started-word-requires c κs = search needs
 
 slice-write-w : tie.Need-slice-write-w
 slice-write-w c = search needs
 
-next-word-requires : tie.Need-next-word-requires
-next-word-requires c κs = search needs
+started-word-requires : tie.Need-started-word-requires
+started-word-requires c κs = search needs
 
 slice-write-w-2 : tie.Need-slice-write-w-2
 slice-write-w-2 c = simp length-set (omega arith)
+
+next-word-requires : tie.Need-next-word-requires
+next-word-requires c κs = search needs
+
+slice-write-w-3 : tie.Need-slice-write-w-3
+slice-write-w-3 c = simp length-set (omega arith)
 
 write-amounts-requires : tie.Need-write-amounts-requires
 write-amounts-requires c κs = search needs
@@ -34,16 +31,21 @@ same-length : tie.Need-same-length
 same-length c = c .before .before .write-counters .kept .0 ∙ c .before .before .before .before .before .before .write-amounts .kept .0 ∙ simp length-set
 
 returns : tie.Need-returns
-returns c = search needs
+returns c =
+    let counters = c .before .before in
+    let amounts = counters .before .before .before .before in
+    let next = amounts .before .before in
+    rw (counters .write-counters .ensures, amounts .write-amounts .ensures, next .next-word .ensures, next .before .started-word .ensures)
 
 pub write-state-spec : {M : Type 1} → statement M
 write-state-spec =
     tie.close
     (tie.spec
-    started-word-requires
     slice-write-w
-    next-word-requires
+    started-word-requires
     slice-write-w-2
+    next-word-requires
+    slice-write-w-3
     write-amounts-requires
     write-counters-requires
     same-length
