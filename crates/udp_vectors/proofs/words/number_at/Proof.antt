@@ -1,0 +1,59 @@
+-- `udp_vectors::words::number_at` is safe and ends: the number keeps its 32 bits, and what is left of the line is less each turn. Assumes nothing.
+use Prim.Native.Nat.{_-_, _<_}
+use lib.ListN.{length}
+use borrow.Author.Needs.{needs}
+use Rattle.udp_vectors.proofs.words.number_at.Statement.{statement}
+use Rattle.udp_vectors.proofs.words.number_at.Tie as tie
+
+abbrev Inv-loop : tie.InvT-loop
+Inv-loop line at value₀ i₀ value i = value < 4294967296
+
+abbrev μ-loop : tie.MeasureT-loop
+μ-loop line at value₀ i₀ value i = length line - i
+
+loop-holds : tie.Need-loop-holds Inv-loop μ-loop
+loop-holds c = search needs
+
+shared-slice-read-digit : tie.Need-shared-slice-read-digit Inv-loop μ-loop
+shared-slice-read-digit c = search needs
+
+digit-requires : tie.Need-digit-requires Inv-loop μ-loop
+digit-requires c κs = search needs
+
+returns : tie.Need-returns Inv-loop μ-loop
+returns c = search needs
+
+mul-value : tie.Need-mul-value Inv-loop μ-loop
+mul-value c = search needs
+
+add-value : tie.Need-add-value Inv-loop μ-loop
+add-value c = search needs
+
+add-i : tie.Need-add-i Inv-loop μ-loop
+add-i c = search needs
+
+loop-less : tie.Need-loop-less Inv-loop μ-loop
+loop-less c = search needs
+
+loop-again : tie.Need-loop-again Inv-loop μ-loop
+loop-again c = search needs
+
+returns-2 : tie.Need-returns-2 Inv-loop μ-loop
+returns-2 c = search needs
+
+pub number-at-spec : {M : Type 1} → statement M
+number-at-spec =
+    tie.close
+    (tie.spec
+    Inv-loop
+    μ-loop
+    loop-holds
+    shared-slice-read-digit
+    digit-requires
+    returns
+    mul-value
+    add-value
+    add-i
+    loop-less
+    loop-again
+    returns-2)
