@@ -1,0 +1,29 @@
+-- What each export promises: the numbers are those of the tape's answer. Assumes nothing.
+use Prim.Native.Nat.{ℕ}
+use mathlib.Core.Path.{_≡_}
+use mathlib.Core.List.{List}
+use Rattle.model.specs.Tape as Tape
+use Rattle.model.specs.Tape.{callAt, read}
+use Rattle.tape.specs.declared.Found.{Found}
+use Rattle.tape.specs.Answers.{IsFound, verdictOf, setupAnswer, answerOf, targetAfter}
+use Rattle.tape_exports.specs.Numbers.{handed, verdictNumber, setupNumber, setupOut, foundNumbers, putNumber}
+
+-- the verdict on a tape
+pub record VerdictHanded (tape : List ℕ) (r : ℕ) : Type 0 where
+  pub answered : r ≡ verdictNumber (verdictOf (read tape))
+
+-- the setup of a tape, in a slice that a bad tape leaves as it was
+pub record SetupHanded (tape entry exit : List ℕ) (r : ℕ) : Type 0 where
+  pub answered : r ≡ setupNumber (setupAnswer (read tape))
+  pub out : exit ≡ setupOut (setupAnswer (read tape)) entry
+
+-- what stands at a place of a tape
+pub record CallHanded (tape : List ℕ) (place : ℕ) (entry exit : List ℕ) : Type 0 where
+  pub found : Found
+  pub right : IsFound tape (callAt tape place) found
+  pub out : exit ≡ handed (foundNumbers found) entry
+
+-- a target that is written, or left as it was where the answer is a refusal
+pub record PutHanded (p : Tape.Put) (old new : List ℕ) (r : ℕ) : Type 0 where
+  pub answered : r ≡ putNumber (answerOf p)
+  pub target : new ≡ targetAfter p old
