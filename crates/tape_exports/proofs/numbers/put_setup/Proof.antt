@@ -40,7 +40,13 @@ same-length : tie.Need-same-length
 same-length c = search needs
 
 returns : tie.Need-returns
-returns c = cc
+returns c =
+    let ofB = c .before .before in
+    let ofA = ofB .before .before .before .before in
+    let height = ofA .before .before .before .before in
+    let width = height .before .before .before .before .before in
+    let four = width .before .before .before .before .before in
+    rw (ofB .put-estimates2 .ensures, ofA .put-estimates .ensures, height .put2 .ensures, width .put .ensures, four .put-four .ensures)
 
 pub put-setup-spec : {M : Type 1} → statement M
 put-setup-spec =
