@@ -1,2 +1,4 @@
 pub mod Asked
 pub mod Answered
+pub mod Words
+pub mod Exported

@@ -4,8 +4,12 @@
 //   its display: top, range, zoom and smoothing, then the estimates of top, floor and range
 //   a jitter buffer: as in jitter_checked::words
 //   a stream's counts: packets, dropped and late, then whether there was a last sequence, and that
+ghost use mathlib.Core.Path.{_≡_};
 ghost use Prim.Native.Nat.{_≤_};
 ghost use lib.ListN.{length};
+ghost use lib.Seq.{sets};
+ghost use Rattle.udp_checked.specs.Words.{rowAt, displayAt, screenAt, doneWord, rowWords, lengthWords, estimateFloats, completedWord, lastAt, countsAt, knownWord, lastWord, countWords};
+ghost use Rattle.udp_checked.specs.Exported.{WaterfallExported, AudioExported, CountsExported};
 use jitter_checked::words::buffer_of;
 use jitter_checked::words::sizes_of;
 use jitter_checked::words::write_state;
@@ -19,6 +23,7 @@ use udp::reassembler::RowState;
 
 fn row_of(w: &[u64]) -> RowState
     requires { ⌜ 8 ≤ length (now w) ⌝ }
+    ensures { λ r. ⌜ r ≡ rowAt (now (w .entry)) ⌝ }
 {
     if w[0] == 0 {
         return RowState::NoRow;
@@ -33,6 +38,7 @@ fn row_of(w: &[u64]) -> RowState
 
 fn display_of(adaptive: u64, d: &[f32]) -> Display
     requires { ⌜ 7 ≤ length (now d) ⌝ }
+    ensures { λ r. ⌜ r ≡ displayAt adaptive (now (d .entry)) ⌝ }
 {
     Display {
         adaptive: adaptive != 0,
@@ -48,6 +54,7 @@ fn display_of(adaptive: u64, d: &[f32]) -> Display
 
 fn screen_of(w: &[u64], d: &[f32]) -> Screen
     requires { ⌜ (8 ≤ length (now w)) × (7 ≤ length (now d)) ⌝ }
+    ensures { λ r. ⌜ r ≡ screenAt (now (w .entry)) (now (d .entry)) ⌝ }
 {
     let row = row_of(w);
     let display = display_of(w[7], d);
@@ -59,8 +66,15 @@ fn screen_of(w: &[u64], d: &[f32]) -> Screen
     }
 }
 
+fn done_word(done: bool) -> u64
+    ensures { λ r. ⌜ r ≡ doneWord done ⌝ }
+{
+    if done { 1 } else { 0 }
+}
+
 fn write_row(w: &mut [u64], row: RowState)
     requires { ⌜ 8 ≤ length (now w) ⌝ }
+    ensures { λ _. ⌜ now (w .exit) ≡ sets (now (w .entry)) 0 (rowWords row) ⌝ }
 {
     match row {
         RowState::NoRow => {
@@ -71,7 +85,7 @@ fn write_row(w: &mut [u64], row: RowState)
             w[1] = r.row_seq as u64;
             w[2] = r.total_bins as u64;
             w[3] = r.filled as u64;
-            w[4] = r.done as u64;
+            w[4] = done_word(r.done);
         }
     }
 }
@@ -79,27 +93,30 @@ fn write_row(w: &mut [u64], row: RowState)
 // Of the display only the estimates change.
 fn write_estimates(d: &mut [f32], display: Display)
     requires { ⌜ 7 ≤ length (now d) ⌝ }
+    ensures { λ _. ⌜ now (d .exit) ≡ sets (now (d .entry)) 4 (estimateFloats display) ⌝ }
 {
     d[4] = display.top_estimate;
     d[5] = display.floor_estimate;
     d[6] = display.range_estimate;
 }
 
-fn write_screen(w: &mut [u64], d: &mut [f32], screen: Screen)
-    requires { ⌜ (8 ≤ length (now w)) × (7 ≤ length (now d)) ⌝ }
+// The word of adaptive stays as it is.
+fn write_screen(w: &mut [u64], screen: Screen)
+    requires { ⌜ 8 ≤ length (now w) ⌝ }
+    ensures { λ _. ⌜ now (w .exit) ≡ sets (sets (now (w .entry)) 0 (rowWords (screen .row))) 5 (lengthWords screen) ⌝ }
 {
     let row = screen.row;
-    let display = screen.display;
     write_row(w, row);
     w[5] = screen.spectrum_len as u64;
     w[6] = screen.smooth_len as u64;
-    write_estimates(d, display);
 }
 
-fn completed_word(completed: CompletedRow) -> u64 {
+fn completed_word(completed: CompletedRow) -> u64
+    ensures { λ r. ⌜ r ≡ completedWord completed ⌝ }
+{
     match completed {
         CompletedRow::NoRow => 1,
-        CompletedRow::Bins(n) => std::num::wrapping_add_u64(n as u64, 2),
+        CompletedRow::Bins(n) => (n % 65536 + 2) as u64,
     }
 }
 
@@ -113,7 +130,9 @@ pub extern "C" fn udp_handle_waterfall_packet(
     work: usize,
     picture: &mut [u32],
     payload: &[u8],
-) -> u64 {
+) -> u64
+    ensures { λ r. ⌜ WaterfallExported (now (sizes .entry)) (now (state .entry)) (now (display .entry)) (now (rows .entry)) work (now (picture .entry)) (now (payload .entry)) (now (state .exit)) (now (display .exit)) (now (rows .exit)) (now (picture .exit)) r ⌝ }
+{
     if sizes.len() < 6 {
         return 0;
     }
@@ -131,7 +150,8 @@ pub extern "C" fn udp_handle_waterfall_packet(
         crate::Waterfall::Done(h) => {
             let after = h.screen;
             let completed = h.completed;
-            write_screen(state, display, after);
+            write_screen(state, after);
+            write_estimates(display, after.display);
             completed_word(completed)
         }
     }
@@ -146,7 +166,9 @@ pub extern "C" fn udp_handle_audio_packet(
     us: &mut [u32],
     sequence: u32,
     payload: &[u8],
-) -> bool {
+) -> bool
+    ensures { λ r. ⌜ AudioExported (now (sizes .entry)) (now (state .entry)) (now (fs .entry)) (now (us .entry)) sequence (now (payload .entry)) (now (state .exit)) (now (fs .exit)) (now (us .exit)) r ⌝ }
+{
     if sizes.len() < 6 {
         return false;
     }
@@ -165,7 +187,9 @@ pub extern "C" fn udp_handle_audio_packet(
     }
 }
 
-fn last_of(known: u64, last: u64) -> LastSequence {
+fn last_of(known: u64, last: u64) -> LastSequence
+    ensures { λ r. ⌜ r ≡ lastAt known last ⌝ }
+{
     if known == 0 {
         LastSequence::Unknown
     } else {
@@ -175,6 +199,7 @@ fn last_of(known: u64, last: u64) -> LastSequence {
 
 fn counts_of(w: &[u64]) -> StreamCounts
     requires { ⌜ 5 ≤ length (now w) ⌝ }
+    ensures { λ r. ⌜ r ≡ countsAt (now (w .entry)) ⌝ }
 {
     let last = last_of(w[3], w[4]);
     StreamCounts {
@@ -185,14 +210,18 @@ fn counts_of(w: &[u64]) -> StreamCounts
     }
 }
 
-fn known_word(last: LastSequence) -> u64 {
+fn known_word(last: LastSequence) -> u64
+    ensures { λ r. ⌜ r ≡ knownWord last ⌝ }
+{
     match last {
         LastSequence::Unknown => 0,
         LastSequence::Known(_) => 1,
     }
 }
 
-fn last_word(last: LastSequence) -> u64 {
+fn last_word(last: LastSequence) -> u64
+    ensures { λ r. ⌜ r ≡ lastWord last ⌝ }
+{
     match last {
         LastSequence::Unknown => 0,
         LastSequence::Known(s) => s as u64,
@@ -201,6 +230,7 @@ fn last_word(last: LastSequence) -> u64 {
 
 fn write_counts(w: &mut [u64], c: StreamCounts)
     requires { ⌜ 5 ≤ length (now w) ⌝ }
+    ensures { λ _. ⌜ now (w .exit) ≡ sets (now (w .entry)) 0 (countWords c) ⌝ }
 {
     let last = c.last;
     w[0] = c.packets;
@@ -212,7 +242,9 @@ fn write_counts(w: &mut [u64], c: StreamCounts)
 
 // false: refused.
 #[no_mangle]
-pub extern "C" fn udp_update_sequence_stats(counts: &mut [u64], sequence: u32) -> bool {
+pub extern "C" fn udp_update_sequence_stats(counts: &mut [u64], sequence: u32) -> bool
+    ensures { λ r. ⌜ CountsExported (now (counts .entry)) sequence (now (counts .exit)) r ⌝ }
+{
     if counts.len() < 5 {
         return false;
     }

@@ -1,4 +1,4 @@
--- `udp_checked::exports::write_counts` is safe: a store keeps the length. Assumes nothing.
+-- `udp_checked::exports::write_counts` meets its contract: the stores are the words in their order. Assumes nothing.
 use native.Mathlib.Omega.{arith}
 use lib.ListN.{length-set}
 use borrow.Author.Needs.{needs}
@@ -30,7 +30,7 @@ same-length : tie.Need-same-length
 same-length c = search needs
 
 returns : tie.Need-returns
-returns c = search needs
+returns c = rw (c .last-word .ensures, c .before .known-word .ensures)
 
 pub write-counts-spec : {M : Type 1} → statement M
 write-counts-spec =

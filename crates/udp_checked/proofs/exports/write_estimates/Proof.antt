@@ -1,4 +1,4 @@
--- `udp_checked::exports::write_estimates` is safe: a store keeps the length. Assumes nothing.
+-- `udp_checked::exports::write_estimates` meets its contract: the stores are the floats in their order. Assumes nothing.
 use native.Mathlib.Omega.{arith}
 use lib.ListN.{length-set}
 use borrow.Author.Needs.{needs}

