@@ -1,19 +1,24 @@
 -- What an export hands over, from what the function that it calls promises. Assumes nothing.
-use Prim.Native.Nat.{ℕ, suc, _+_}
+use Prim.Native.Nat.{ℕ, suc, _+_, _^_, _<_}
 use mathlib.Core.Path.{_≡_, refl, ap, _∙_}
+use mathlib.Core.Bool.{true}
 use mathlib.Core.List.{List, [], _∷_}
 use native.Mathlib.Omega.{arith}
-use lib.ListN.{set}
+use lib.ListN.{length, set}
 use lib.Seq.{sets}
-use Rattle.model.specs.Tape as Tape
-use Rattle.model.specs.Tape.{read}
-use Rattle.tape.specs.Answers.{Wrote, setupAnswer, answerOf}
+use Rattle.model.specs.Receiver as Receiver
+use Rattle.model.specs.Receiver.{Call, all}
+use Rattle.model.specs.Tape.{read, putCall, putSetup, putEnd}
+use Rattle.model.proofs.BytesLaws.{isByte}
+use Rattle.tape.specs.Answers.{Wrote, verdictOf, setupAnswer}
 use Rattle.tape.specs.declared.Put.{Put}
 use Rattle.tape.specs.declared.Setup.{Setup}
 use Rattle.tape.specs.declared.SetupRead.{SetupRead}
 use Rattle.tape.specs.declared.SetupRead.the-variants as setupRead
-use Rattle.tape_exports.specs.Numbers.{handed, largest, setupNumbers, setupNumber, setupOut, putNumber}
-use Rattle.tape_exports.specs.Promises.{SetupHanded, PutHanded}
+use Rattle.tape.specs.declared.Checked.{Checked}
+use Rattle.tape_exports.specs.Numbers.{handed, largest, verdictNumber, setupNumbers, putNumber}
+use Rattle.tape_exports.specs.Promises.{VerdictHanded, SetupHanded, PutHanded}
+use Rattle.tape_exports.proofs.Places.{verdict-below, setup-below, call-below, setup-put-below, end-below}
 
 -- ---- stores from the front on
 
@@ -39,16 +44,32 @@ sets-is-handed (b ∷ l) (v ∷ vs) = sets-behind v l 0 vs ∙ ap (λ (r : List 
 
 -- ---- what is read
 
-pub setup-handed : {tape entry exit : List ℕ} {s : SetupRead} {x : Setup} → s ≡ setupAnswer (read tape) → s ≡ setupRead.Found x
-    → exit ≡ sets entry 0 (setupNumbers x) → SetupHanded tape entry exit largest
-setup-handed {tape} {entry} {exit} {s} {x} e f h =
-    record { answered = rw (← e, f); out = rw (← e, f) (h ∙ sets-is-handed entry (setupNumbers x)) }
+module _ {tape : List ℕ} (are : all isByte tape ≡ true) (fits : length tape < 2 ^ 64) where
+  pub verdict-handed : {v : Checked} → v ≡ verdictOf (read tape) → VerdictHanded tape (verdictNumber v)
+  verdict-handed e = record { answered = ap verdictNumber e; below = verdict-below tape are fits }
 
-pub bad-handed : {tape entry : List ℕ} {s : SetupRead} {place : ℕ} → s ≡ setupAnswer (read tape) → s ≡ setupRead.Bad place
-    → SetupHanded tape entry entry place
-bad-handed e f = record { answered = rw (← e, f); out = rw (← e, f) }
+  pub setup-handed : {entry exit : List ℕ} {s : SetupRead} {x : Setup} → s ≡ setupAnswer (read tape) → s ≡ setupRead.Found x
+      → exit ≡ sets entry 0 (setupNumbers x) → SetupHanded tape entry exit largest
+  setup-handed {entry} {exit} {s} {x} e f h =
+      record {
+        answered = rw (← e, f);
+        below = setup-below tape are fits;
+        out = rw (← e, f) (h ∙ sets-is-handed entry (setupNumbers x));
+      }
+
+  pub bad-handed : {entry : List ℕ} {s : SetupRead} {place : ℕ} → s ≡ setupAnswer (read tape) → s ≡ setupRead.Bad place
+      → SetupHanded tape entry entry place
+  bad-handed e f = record { answered = rw (← e, f); below = setup-below tape are fits; out = rw (← e, f) }
 
 -- ---- what is written
 
-pub put-handed : {p : Tape.Put} {old new : List ℕ} {a : Put} {r : ℕ} → Wrote p old new a → r ≡ putNumber a → PutHanded p old new r
-put-handed w e = record { answered = e ∙ ap putNumber (w .answers); target = w .target }
+module _ (place : ℕ) {old new : List ℕ} {a : Put} {r : ℕ} (fits : length old < 2 ^ 64) (e : r ≡ putNumber a) where
+  pub call-handed : (c : Call) → Wrote (putCall place c old) old new a → PutHanded (putCall place c old) old new r
+  call-handed c w = record { answered = e ∙ ap putNumber (w .answers); below = call-below place old fits c; target = w .target }
+
+  pub setup-put-handed : (x : Receiver.Setup) → Wrote (putSetup place x old) old new a → PutHanded (putSetup place x old) old new r
+  setup-put-handed x w =
+      record { answered = e ∙ ap putNumber (w .answers); below = setup-put-below place old fits x; target = w .target }
+
+  pub end-handed : Wrote (putEnd place old) old new a → PutHanded (putEnd place old) old new r
+  end-handed w = record { answered = e ∙ ap putNumber (w .answers); below = end-below place old fits; target = w .target }

@@ -1,1 +1,2 @@
 pub mod HandedOver
+pub mod Places

@@ -1,4 +1,8 @@
 -- `tape_exports::reading::tape_setup` meets its contract: the numbers that are stored are the setup's, and a bad tape stores none. Assumes nothing.
+use Prim.Native.Nat.{ℕ}
+use mathlib.Core.List.{List}
+use native.Mathlib.Omega.{arith}
+use Rattle.tape.proofs.WordLaws.{slice-are-bytes}
 use Rattle.tape_exports.proofs.HandedOver.{setup-handed, bad-handed}
 use borrow.Author.Needs.{needs}
 use Rattle.tape_exports.proofs.reading.tape_setup.Statement.{statement}
@@ -24,10 +28,16 @@ returns c =
     let stored = c .before .before in
     let held = stored .before .before .before in
     let called = held .before .before in
-    setup-handed (called .setup-of .ensures) (held .s .given .1) (stored .put-setup .ensures)
+    let start = called .before .before .before in
+    let bytes : List ℕ = start .args .tape .now in
+    setup-handed {tape = bytes} (slice-are-bytes bytes (called .before .before .shared-slice-known .given)) (omega arith) (called .setup-of .ensures) (held .s .given .1)
+    (stored .put-setup .ensures)
 
 returns-2 : tie.Need-returns-2
-returns-2 c = bad-handed (c .before .before .before .setup-of .ensures) (c .before .s2 .given .1)
+returns-2 c =
+    let called = c .before .before .before in
+    let bytes : List ℕ = called .before .before .before .args .tape .now in
+    bad-handed {tape = bytes} (slice-are-bytes bytes (called .before .before .shared-slice-known .given)) (omega arith) (called .setup-of .ensures) (c .before .s2 .given .1)
 
 pub tape-setup-spec : {M : Type 1} → statement M
 tape-setup-spec =

@@ -1,5 +1,6 @@
 -- `tape_exports::writing::tape_put_probe` meets its contract: the number is that of the writer's answer. Assumes nothing.
-use Rattle.tape_exports.proofs.HandedOver.{put-handed}
+use Rattle.tape_exports.proofs.HandedOver.{call-handed}
+use native.Mathlib.Omega.{arith}
 use borrow.Author.Needs.{needs}
 use Rattle.tape_exports.proofs.writing.tape_put_probe.Statement.{statement}
 use Rattle.tape_exports.proofs.writing.tape_put_probe.Tie as tie
@@ -14,7 +15,7 @@ same-length : tie.Need-same-length
 same-length c = search needs
 
 returns : tie.Need-returns
-returns c = put-handed (c .before .before .before .put-probe .ensures) (c .answer .ensures)
+returns c = call-handed _ (omega arith) (c .answer .ensures) _ (c .before .before .before .put-probe .ensures)
 
 pub tape-put-probe-spec : {M : Type 1} → statement M
 tape-put-probe-spec = tie.close (tie.spec put-probe-requires answer-requires same-length returns)
