@@ -6,7 +6,7 @@ use native.Mathlib.Omega.{arith}
 use lib.Dec.{leb, ltb}
 use borrow.Author.Tests.{le-leb, lt-leb, lt-ltb, le-ltb}
 use Rattle.udp.specs.declared.reassembler.OpenRow.{OpenRow}
-use Rattle.udp.specs.declared.reassembler.RowState.the-variants as State
+use Rattle.udp.specs.declared.reassembler.WaterfallReassembler.the-variants as State
 use Rattle.udp.specs.declared.packets.Screen.{Screen}
 use Rattle.udp.specs.Packets.{rowAsked, screenAsked}
 

@@ -20,8 +20,8 @@ use Rattle.model.proofs.ListLaws.{alike-shorter}
 use Rattle.areas.proofs.Placed.{part-behind}
 use Rattle.sizes.specs.declared.Sizes.{Sizes}
 use Rattle.sizes.specs.View.{sizesOf}
-use Rattle.udp.specs.declared.reassembler.RowState.{RowState}
-use Rattle.udp.specs.declared.reassembler.RowState.the-variants as State
+use Rattle.udp.specs.declared.reassembler.WaterfallReassembler.{WaterfallReassembler}
+use Rattle.udp.specs.declared.reassembler.WaterfallReassembler.the-variants as State
 use Rattle.udp.specs.declared.reassembler.CompletedRow.{CompletedRow}
 use Rattle.udp.specs.declared.reassembler.CompletedRow.the-variants as Completed
 use Rattle.udp.specs.declared.reassembler.Pushed.{Pushed}
@@ -33,7 +33,7 @@ use Rattle.udp.proofs.Screens.{asked-kept, asked-lengths, screen-still-
 
 -- ---- before
 
-row-fits : (bins : ℕ) (r : RowState) (xs : List Float) → rowAsked bins r ≡ true → bins ≤ length xs → RowKept (rowOf r xs) (length xs)
+row-fits : (bins : ℕ) (r : WaterfallReassembler) (xs : List Float) → rowAsked bins r ≡ true → bins ≤ length xs → RowKept (rowOf r xs) (length xs)
 unfolding rowAsked
 row-fits bins State.NoRow xs asked long = tt
 row-fits bins (State.Open r) xs asked long =

@@ -15,7 +15,7 @@ use Rattle.model.specs.Row.{Chunk, Row, floatsOf, finitePrefix, complete, rowFo
 use Rattle.model.proofs.BoolLaws.{by-test, cond-keeps, second-of-both}
 use Rattle.model.proofs.ListLaws.{placed-length}
 use Rattle.udp.specs.declared.reassembler.OpenRow.{OpenRow}
-use Rattle.udp.specs.declared.reassembler.RowState.the-variants as State
+use Rattle.udp.specs.declared.reassembler.WaterfallReassembler.the-variants as State
 use Rattle.udp.specs.declared.reassembler.CompletedRow.the-variants as Completed
 use Rattle.udp.specs.Requires.{RowKept, Storable}
 use Rattle.udp.specs.Rows.{chunkOf, openOf, countedRow, StoredPrefix, PushedAs}

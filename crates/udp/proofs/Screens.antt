@@ -24,8 +24,8 @@ use Rattle.sizes.specs.declared.Sizes.{Sizes}
 use Rattle.sizes.specs.View.{sizesOf}
 use Rattle.udp.specs.declared.Display.{Display}
 use Rattle.udp.specs.declared.reassembler.OpenRow.{OpenRow}
-use Rattle.udp.specs.declared.reassembler.RowState.{RowState}
-use Rattle.udp.specs.declared.reassembler.RowState.the-variants as State
+use Rattle.udp.specs.declared.reassembler.WaterfallReassembler.{WaterfallReassembler}
+use Rattle.udp.specs.declared.reassembler.WaterfallReassembler.the-variants as State
 use Rattle.udp.specs.declared.reassembler.CompletedRow.the-variants as Completed
 use Rattle.udp.specs.declared.reassembler.Pushed.{Pushed}
 use Rattle.udp.specs.declared.packets.Screen.{Screen}
@@ -37,7 +37,7 @@ use Rattle.udp.specs.Packets.{rowAsked, screenAsked, channelOf}
 -- ---- a row that could be held
 
 -- its values stand in the first bins
-pub row-in-front : (bins : ℕ) (r : RowState) (xs ys : List Float) → rowAsked bins r ≡ true → take bins xs ≡ take bins ys → rowOf r xs ≡ rowOf r ys
+pub row-in-front : (bins : ℕ) (r : WaterfallReassembler) (xs ys : List Float) → rowAsked bins r ≡ true → take bins xs ≡ take bins ys → rowOf r xs ≡ rowOf r ys
 unfolding rowAsked
 row-in-front bins State.NoRow xs ys asked alike = refl
 row-in-front bins (State.Open r) xs ys asked alike =
@@ -50,7 +50,7 @@ beq-equal true false e = sym e
 beq-equal false true e = e
 beq-equal false false e = refl
 
-pub asked-kept : (z : Sizes) (r : RowState) (xs : List Float) → rowAsked (z .bins) r ≡ true → z .bins ≤ length xs → RowKept (sizesOf z) (rowOf r xs)
+pub asked-kept : (z : Sizes) (r : WaterfallReassembler) (xs : List Float) → rowAsked (z .bins) r ≡ true → z .bins ≤ length xs → RowKept (sizesOf z) (rowOf r xs)
 unfolding rowAsked
 asked-kept z State.NoRow xs asked long = tt
 asked-kept z (State.Open r) xs asked long =
@@ -66,7 +66,7 @@ asked-kept z (State.Open r) xs asked long =
       as-long = length-take-le (r .«total_bins») xs (omega arith);
     }
 
-pub kept-asked : (z : Sizes) (r : RowState) (xs : List Float) → RowKept (sizesOf z) (rowOf r xs) → rowAsked (z .bins) r ≡ true
+pub kept-asked : (z : Sizes) (r : WaterfallReassembler) (xs : List Float) → RowKept (sizesOf z) (rowOf r xs) → rowAsked (z .bins) r ≡ true
 unfolding rowAsked rowHeld
 kept-asked z State.NoRow xs kept = refl
 kept-asked z (State.Open r) xs kept = row-kept-held (sizesOf z) (some (openOf r xs)) kept

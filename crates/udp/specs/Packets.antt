@@ -16,8 +16,8 @@ use Rattle.sizes.specs.View.{sizesOf}
 use Rattle.jitter_buffer.specs.declared.JitterBuffer.{JitterBuffer}
 use Rattle.jitter_buffer.specs.View.{viewOf}
 use Rattle.jitter_buffer.specs.Promises.{StaysHeld}
-use Rattle.udp.specs.declared.reassembler.RowState.{RowState}
-use Rattle.udp.specs.declared.reassembler.RowState.the-variants as State
+use Rattle.udp.specs.declared.reassembler.WaterfallReassembler.{WaterfallReassembler}
+use Rattle.udp.specs.declared.reassembler.WaterfallReassembler.the-variants as State
 use Rattle.udp.specs.declared.packets.Screen.{Screen}
 use Rattle.udp.specs.declared.packets.Handled.{Handled}
 use Rattle.udp.specs.Rows.{rowOf, completedOf}
@@ -31,7 +31,7 @@ pub record AudioHandled (z : Sizes) (j : JitterBuffer) (fs : List Float) (us : L
 -- ---- question 3, of the numbers alone
 
 -- a row: total ≤ bins, filled bins < 2 × total, and done exactly when filled ≥ total
-unfoldable pub rowAsked : ℕ → RowState → Bool
+unfoldable pub rowAsked : ℕ → WaterfallReassembler → Bool
 rowAsked bins State.NoRow = true
 rowAsked bins (State.Open r) =
     leb (r .«total_bins») bins

@@ -10,8 +10,8 @@ use lib.Ieee.{Float}
 use Rattle.model.specs.Bytes.{placed}
 use Rattle.model.specs.Row.{Chunk, Row, RowResult, floatsOf, finitePrefix}
 use Rattle.udp.specs.declared.reassembler.OpenRow.{OpenRow}
-use Rattle.udp.specs.declared.reassembler.RowState.{RowState}
-use Rattle.udp.specs.declared.reassembler.RowState.the-variants as State
+use Rattle.udp.specs.declared.reassembler.WaterfallReassembler.{WaterfallReassembler}
+use Rattle.udp.specs.declared.reassembler.WaterfallReassembler.the-variants as State
 use Rattle.udp.specs.declared.reassembler.CompletedRow.{CompletedRow}
 use Rattle.udp.specs.declared.reassembler.CompletedRow.the-variants as Completed
 use Rattle.udp.specs.declared.reassembler.Pushed.{Pushed}
@@ -31,7 +31,7 @@ openOf r buf =
       values = take (r .«total_bins») buf;
     }
 
-abbrev pub rowOf : RowState → List Float → Option Row
+abbrev pub rowOf : WaterfallReassembler → List Float → Option Row
 rowOf State.NoRow buf = none
 rowOf (State.Open r) buf = some (openOf r buf)
 

@@ -11,8 +11,7 @@ ghost use Prim.Native.Nat.{_≤_};
 ghost use Rattle.udp.specs.Packets.{AudioHandled, rowAsked, screenAsked, ScreenReady, RowShown, WaterfallHandled};
 use crate::Display;
 use crate::reassembler::CompletedRow;
-use crate::reassembler::RowState;
-use crate::reassembler::push_chunk;
+use crate::reassembler::WaterfallReassembler;
 use jitter_buffer::JitterBuffer;
 use sizes::Sizes;
 
@@ -47,7 +46,7 @@ pub fn handle_audio_packet(
 // What a channel shows, but for the values, which stand in lent memory: the row that chunks are stored in, how many bins of
 // the spectrum and of smoothing are in use, and the display.
 pub struct Screen {
-    pub row: RowState,
+    pub row: WaterfallReassembler,
     pub spectrum_len: usize,
     pub smooth_len: usize,
     pub display: Display,
@@ -60,10 +59,10 @@ pub struct Handled {
 }
 
 // Question 3 for a row: whether a receiver with rows of at most so many bins could hold it.
-fn row_could_be_held(row: RowState, bins: usize) -> bool
+fn row_could_be_held(row: WaterfallReassembler, bins: usize) -> bool
     ensures { λ r. ⌜ r ≡ rowAsked bins row ⌝ }
 {
-    let RowState::Open(open) = row else {
+    let WaterfallReassembler::Open(open) = row else {
         return true;
     };
     let total_bins = open.total_bins;
@@ -149,7 +148,7 @@ pub fn handle_waterfall_packet(
 {
     let bins = z.bins;
     let row = screen.row;
-    let pushed = push_chunk(row, &mut rows[..bins], payload);
+    let pushed = row.push_chunk(&mut rows[..bins], payload);
     let row_after = pushed.row;
     let display = screen.display;
     let filled = Screen {

@@ -19,7 +19,7 @@ pub struct OpenRow {
     pub done: bool,
 }
 
-pub enum RowState {
+pub enum WaterfallReassembler {
     NoRow,
     Open(OpenRow),
 }
@@ -32,27 +32,29 @@ pub enum CompletedRow {
 
 // What a chunk leaves.
 pub struct Pushed {
-    pub row: RowState,
+    pub row: WaterfallReassembler,
     pub completed: CompletedRow,
 }
 
-// Feeds one chunk, the bytes after the media header. A new row number or total opens a zeroed row; a done row ignores
-// the chunk. At a value that is not finite the earlier ones remain and nothing is counted.
-pub fn push_chunk(row: RowState, buf: &mut [f32], payload: &[u8]) -> Pushed
-    requires { ⌜ PushFits (rowOf row (now buf)) (length (now buf)) (now payload) ⌝ }
-    ensures { λ r. ⌜ PushedAs (pushChunk (now (payload .entry)) (rowOf row (now (buf .entry)))) r (now (buf .exit)) ⌝ }
-{
-    if !is_well_formed(payload) {
-        return Pushed {
-            row,
-            completed: CompletedRow::NoRow,
-        };
+impl WaterfallReassembler {
+    // Feeds one chunk, the bytes after the media header. A new row number or total opens a zeroed row; a done row ignores
+    // the chunk. At a value that is not finite the earlier ones remain and nothing is counted.
+    pub fn push_chunk(self, buf: &mut [f32], payload: &[u8]) -> Pushed
+        requires { ⌜ PushFits (rowOf self (now buf)) (length (now buf)) (now payload) ⌝ }
+        ensures { λ r. ⌜ PushedAs (pushChunk (now (payload .entry)) (rowOf self (now (buf .entry)))) r (now (buf .exit)) ⌝ }
+    {
+        if !is_well_formed(payload) {
+            return Pushed {
+                row: self,
+                completed: CompletedRow::NoRow,
+            };
+        }
+        let row_seq = read_u16(payload, 0);
+        let total_bins = read_u16(payload, 2) as usize;
+        let bin_offset = read_u16(payload, 4) as usize;
+        let open = row_for(self, buf, row_seq, total_bins);
+        store_chunk(open, buf, bin_offset, &payload[6..])
     }
-    let row_seq = read_u16(payload, 0);
-    let total_bins = read_u16(payload, 2) as usize;
-    let bin_offset = read_u16(payload, 4) as usize;
-    let open = row_for(row, buf, row_seq, total_bins);
-    store_chunk(open, buf, bin_offset, &payload[6..])
 }
 
 // Not ignored: 6 bytes or more, a total that is not 0, whole values, and all of them inside the total.
@@ -75,11 +77,11 @@ fn is_well_formed(payload: &[u8]) -> bool
 }
 
 // The row that a chunk goes to: the open one, or where the number or the total is another, a zeroed one.
-fn row_for(row: RowState, buf: &mut [f32], row_seq: u16, total_bins: usize) -> OpenRow
+fn row_for(row: WaterfallReassembler, buf: &mut [f32], row_seq: u16, total_bins: usize) -> OpenRow
     requires { ⌜ «total_bins» ≤ length (now buf) ⌝ }
     ensures { λ r. ⌜ openOf r (now (buf .exit)) ≡ rowFor (chunkOf «row_seq» «total_bins» 0 []) (rowOf row (now (buf .entry))) ⌝ }
 {
-    let RowState::Open(current) = row else {
+    let WaterfallReassembler::Open(current) = row else {
         return open_row(buf, row_seq, total_bins);
     };
     if current.row_seq != row_seq {
@@ -112,7 +114,7 @@ fn store_chunk(row: OpenRow, buf: &mut [f32], first: usize, bytes: &[u8]) -> Pus
 {
     if row.done {
         return Pushed {
-            row: RowState::Open(row),
+            row: WaterfallReassembler::Open(row),
             completed: CompletedRow::NoRow,
         };
     }
@@ -120,7 +122,7 @@ fn store_chunk(row: OpenRow, buf: &mut [f32], first: usize, bytes: &[u8]) -> Pus
     let stored = store_finite(buf, first, bytes);
     if stored != n {
         return Pushed {
-            row: RowState::Open(row),
+            row: WaterfallReassembler::Open(row),
             completed: CompletedRow::NoRow,
         };
     }
@@ -136,7 +138,7 @@ fn count_filled(row: OpenRow, n: usize) -> Pushed
     let filled = row.filled + n;
     if filled < total_bins {
         return Pushed {
-            row: RowState::Open(OpenRow {
+            row: WaterfallReassembler::Open(OpenRow {
                 row_seq: row.row_seq,
                 total_bins,
                 filled,
@@ -146,7 +148,7 @@ fn count_filled(row: OpenRow, n: usize) -> Pushed
         };
     }
     Pushed {
-        row: RowState::Open(OpenRow {
+        row: WaterfallReassembler::Open(OpenRow {
             row_seq: row.row_seq,
             total_bins,
             filled,

@@ -10,15 +10,15 @@ use Rattle.udp.specs.declared.LastSequence.{LastSequence}
 use Rattle.udp.specs.declared.LastSequence.the-variants.{Unknown, Known}
 use Rattle.udp.specs.declared.StreamCounts.{StreamCounts}
 use Rattle.udp.specs.declared.packets.Screen.{Screen}
-use Rattle.udp.specs.declared.reassembler.RowState.{RowState}
-use Rattle.udp.specs.declared.reassembler.RowState.the-variants as State
+use Rattle.udp.specs.declared.reassembler.WaterfallReassembler.{WaterfallReassembler}
+use Rattle.udp.specs.declared.reassembler.WaterfallReassembler.the-variants as State
 use Rattle.udp.specs.declared.reassembler.CompletedRow.{CompletedRow}
 use Rattle.udp.specs.declared.reassembler.CompletedRow.the-variants as Completed
 
 -- ---- a screen
 
 -- the row that the first five words are: none, or its number, of which the low 16 bits count, its total, its filled bins and whether it is done
-unfoldable pub rowAt : List ℕ → RowState
+unfoldable pub rowAt : List ℕ → WaterfallReassembler
 rowAt w =
     cond (eqb (getD w 0 0) 0)
     State.NoRow
@@ -48,7 +48,7 @@ doneWord false = 0
 doneWord true = 1
 
 -- a row that is not there is told by the first word alone
-abbrev pub rowWords : RowState → List ℕ
+abbrev pub rowWords : WaterfallReassembler → List ℕ
 rowWords State.NoRow = 0 ∷ []
 rowWords (State.Open r) = 1 ∷ r .«row_seq» ∷ r .«total_bins» ∷ r .filled ∷ doneWord (r .done) ∷ []
 

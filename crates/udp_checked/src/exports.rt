@@ -19,16 +19,16 @@ use udp::StreamCounts;
 use udp::packets::Screen;
 use udp::reassembler::CompletedRow;
 use udp::reassembler::OpenRow;
-use udp::reassembler::RowState;
+use udp::reassembler::WaterfallReassembler;
 
-fn row_of(w: &[u64]) -> RowState
+fn row_of(w: &[u64]) -> WaterfallReassembler
     requires { ⌜ 8 ≤ length (now w) ⌝ }
     ensures { λ r. ⌜ r ≡ rowAt (now (w .entry)) ⌝ }
 {
     if w[0] == 0 {
-        return RowState::NoRow;
+        return WaterfallReassembler::NoRow;
     }
-    RowState::Open(OpenRow {
+    WaterfallReassembler::Open(OpenRow {
         row_seq: (w[1] % 65536) as u16,
         total_bins: w[2] as usize,
         filled: w[3] as usize,
@@ -72,15 +72,15 @@ fn done_word(done: bool) -> u64
     if done { 1 } else { 0 }
 }
 
-fn write_row(w: &mut [u64], row: RowState)
+fn write_row(w: &mut [u64], row: WaterfallReassembler)
     requires { ⌜ 8 ≤ length (now w) ⌝ }
     ensures { λ _. ⌜ now (w .exit) ≡ sets (now (w .entry)) 0 (rowWords row) ⌝ }
 {
     match row {
-        RowState::NoRow => {
+        WaterfallReassembler::NoRow => {
             w[0] = 0;
         }
-        RowState::Open(r) => {
+        WaterfallReassembler::Open(r) => {
             w[0] = 1;
             w[1] = r.row_seq as u64;
             w[2] = r.total_bins as u64;

@@ -8,7 +8,7 @@ use udp::LastSequence;
 use udp::StreamCounts;
 use udp::packets::Screen;
 use udp::reassembler::CompletedRow;
-use udp::reassembler::RowState;
+use udp::reassembler::WaterfallReassembler;
 use udp_checked::Counted;
 use udp_checked::Waterfall;
 
@@ -58,7 +58,7 @@ pub(crate) fn fresh(words: &[u32]) -> Session {
         z,
         pixels: pixels_of(z),
         screen: Screen {
-            row: RowState::NoRow,
+            row: WaterfallReassembler::NoRow,
             spectrum_len: 0,
             smooth_len: 0,
             display,
@@ -176,9 +176,9 @@ pub(crate) fn counted(s: Session, sequence: u32) -> Session {
 }
 
 // The bins of the row that is open, or was completed last.
-pub(crate) fn row_len(row: RowState) -> usize {
+pub(crate) fn row_len(row: WaterfallReassembler) -> usize {
     match row {
-        RowState::NoRow => 0,
-        RowState::Open(r) => r.total_bins,
+        WaterfallReassembler::NoRow => 0,
+        WaterfallReassembler::Open(r) => r.total_bins,
     }
 }

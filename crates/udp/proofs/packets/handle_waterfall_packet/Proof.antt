@@ -10,7 +10,7 @@ use Rattle.udp.proofs.packets.handle_waterfall_packet.Tie as tie
 use Rattle.udp.proofs.packets.handle_waterfall_packet.Reads as reads
 use Rattle.udp.proofs.packets.handle_waterfall_packet.Lts as lts
 use Rattle.udp.proofs.packets.show_row.Reads as show-row-reads
-use Rattle.udp.proofs.reassembler.push_chunk.Reads as push-chunk-reads
+use Rattle.udp.proofs.reassembler.WaterfallReassembler.push_chunk.Reads as push-chunk-reads
 
 slice-relend-prefix-push-chunk : tie.Need-slice-relend-prefix-push-chunk
 slice-relend-prefix-push-chunk c = search needs

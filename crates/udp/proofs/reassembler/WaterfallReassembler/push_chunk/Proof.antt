@@ -1,4 +1,4 @@
--- `udp::reassembler::push_chunk` meets its contract: an ignored chunk leaves all as it was; another is stored in the row that it goes to. Assumes nothing.
+-- `udp::reassembler::WaterfallReassembler::push_chunk` meets its contract: an ignored chunk leaves all as it was; another is stored in the row that it goes to. Assumes nothing.
 use mathlib.Core.Path.{_≡_, refl, sym, ap, _∙_, subst}
 use mathlib.Core.Bool.{true, false}
 use mathlib.Core.List.{List, []}
@@ -12,10 +12,10 @@ use Rattle.udp.specs.Rows.{chunkOf, openOf, rowOf, PushedAs}
 use Rattle.udp.proofs.RowStore.{row-for-total, row-for-filled}
 use Rattle.udp.proofs.WellFormed.{ChunkInside, chunk-inside, chunk-ignored, chunk-stored}
 use borrow.Author.Needs.{needs}
-use Rattle.udp.proofs.reassembler.push_chunk.Statement.{statement}
-use Rattle.udp.proofs.reassembler.push_chunk.Tie as tie
-use Rattle.udp.proofs.reassembler.push_chunk.Reads as reads
-use Rattle.udp.proofs.reassembler.push_chunk.Lts as lts
+use Rattle.udp.proofs.reassembler.WaterfallReassembler.push_chunk.Statement.{statement}
+use Rattle.udp.proofs.reassembler.WaterfallReassembler.push_chunk.Tie as tie
+use Rattle.udp.proofs.reassembler.WaterfallReassembler.push_chunk.Reads as reads
+use Rattle.udp.proofs.reassembler.WaterfallReassembler.push_chunk.Lts as lts
 use Rattle.udp.proofs.reassembler.is_well_formed.Reads as is-well-formed-reads
 use Rattle.udp.proofs.reassembler.row_for.Reads as row-for-reads
 use Rattle.udp.proofs.reassembler.store_chunk.Reads as store-chunk-reads
@@ -32,7 +32,7 @@ returns : tie.Need-returns
 returns c = let k = c .before in
     let s = k .before .before .before in
     let ignored : wellFormed (s .args .payload .now) ≡ false = sym (k .is-well-formed .ensures) ∙ not-true _ (c .if1 .taken) in
-    rw (chunk-ignored (s .args .payload .now) (rowOf (s .args .row) (s .args .buf .now)) ignored) (record { row = refl; completed = refl; inside = tt })
+    rw (chunk-ignored (s .args .payload .now) (rowOf (s .args .self) (s .args .buf .now)) ignored) (record { row = refl; completed = refl; inside = tt })
 
 read-u16-requires : tie.Need-read-u16-requires
 read-u16-requires c κs = let k = c .before in
@@ -96,7 +96,7 @@ store-chunk-requires c κs = let k = c .before .before .before .before .before .
     let got = c .before .before .before .before .row-for in
     let total = c .before .before .before .before .before .before .before .read-u162 in
     let first = c .before .before .before .before .before .before .read-u163 in
-    let r = rowOf (s .args .row) (s .args .buf .now) in
+    let r = rowOf (s .args .self) (s .args .buf .now) in
     let goes-to = chunkOf (c .before .before .before .before .before .before .before .before .read-u16 .result) (total .result) 0 [] in
     let some-bins : 1 ≤ total .result = omega (arith, total .ensures, chunk .some-bins) in
     let total-is : got .result .«total_bins» ≡ total .result = ap (λ (x : Row). x .total) (got .ensures) ∙ row-for-total goes-to r in
@@ -116,7 +116,7 @@ returns-2 c = let k = c .before .before .before .before .before .before .before 
     let formed : wellFormed (s .args .payload .now) ≡ true = sym (k .is-well-formed .ensures) ∙ not-false _ (c .before .before .before .before .before .before .before .before .before .before .before .before .if1 .left) in
     let chunk = chunk-inside (s .args .payload .now) formed in
     let payload = s .args .payload .now in
-    let r = rowOf (s .args .row) (s .args .buf .now) in
+    let r = rowOf (s .args .self) (s .args .buf .now) in
     let number = c .before .before .before .before .before .before .before .before .before .before .before .read-u16 in
     let total = c .before .before .before .before .before .before .before .before .before .before .read-u162 in
     let first = c .before .before .before .before .before .before .before .before .before .read-u163 in
