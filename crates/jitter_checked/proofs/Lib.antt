@@ -1,3 +1,4 @@
 pub mod Answered
 pub mod Checked
 pub mod Exported
+pub mod ReadBack
