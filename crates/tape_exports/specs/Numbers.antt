@@ -91,7 +91,8 @@ foundNumbers (found.Bad place) = 10 ∷ place ∷ 0 ∷ 0 ∷ []
 
 -- ---- what is written
 
--- the place after what was written, or the largest number less the refusal's
+-- the place after what was written, or the largest number less the refusal's. The place of a refusal 11 is the one that the
+-- caller gave.
 abbrev pub putNumber : Put → ℕ
 putNumber (answer.Next next) = next
 putNumber (answer.TooLarge place) = largest - 11
