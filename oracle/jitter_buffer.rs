@@ -1,19 +1,13 @@
 // Holds the crate jitter_buffer against the original's JitterBuffer: random sessions of 5 to 500 calls,
 // and after every call every counter, sample and amount. Arguments: a seed and the number of sessions.
 // See jitter_buffer.sh.
+mod jitter_exports;
 mod random;
+use jitter_exports::{jitter_play, jitter_push, jitter_reset};
 use random::Random;
 
 #[path = "rigflow/rigflow-core/src/audio/jitter_buffer.rs"]
 mod original;
-
-#[link(name = "jitter_checked", kind = "static")]
-#[allow(improper_ctypes)]
-extern "C" {
-    fn jitter_push(sizes: &[usize], state: &mut [u64], fs: &mut [f32], us: &mut [u32], sequence: u32, payload: &[u8]) -> bool;
-    fn jitter_play(sizes: &[usize], state: &mut [u64], fs: &mut [f32], us: &mut [u32], out: &mut [f32], answer: &mut [u64]) -> bool;
-    fn jitter_reset(state: &mut [u64]) -> bool;
-}
 
 struct Session {
     sizes: [usize; 6],

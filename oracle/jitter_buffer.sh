@@ -12,7 +12,7 @@ cd "$here/.."
 rt staticlib jitter_checked > /dev/null 2>&1
 work=$(mktemp -d)
 trap 'rm -rf "$work"' EXIT
-cp "$here"/jitter_buffer.rs "$here"/random.rs "$work"
+cp "$here"/jitter_buffer.rs "$here"/jitter_exports.rs "$here"/random.rs "$work"
 ln -s "$sources" "$work/rigflow"
 rustc --edition 2021 -O -A warnings -L "$PWD/target/staticlib" -o "$work/jitter_buffer" "$work/jitter_buffer.rs"
 "$work/jitter_buffer" "$seed" "$sessions"

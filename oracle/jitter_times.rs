@@ -1,16 +1,11 @@
 // Times the same pushes and plays in the original's JitterBuffer and in the crate jitter_buffer, through the
 // static library of jitter_checked, and checks that both played the same. See jitter_times.sh.
+mod jitter_exports;
+use jitter_exports::{jitter_play, jitter_push};
 use std::time::{Duration, Instant};
 
 #[path = "rigflow/rigflow-core/src/audio/jitter_buffer.rs"]
 mod original;
-
-#[link(name = "jitter_checked", kind = "static")]
-#[allow(improper_ctypes)]
-extern "C" {
-    fn jitter_push(sizes: &[usize], state: &mut [u64], fs: &mut [f32], us: &mut [u32], sequence: u32, payload: &[u8]) -> bool;
-    fn jitter_play(sizes: &[usize], state: &mut [u64], fs: &mut [f32], us: &mut [u32], out: &mut [f32], answer: &mut [u64]) -> bool;
-}
 
 // A player under test: it gets a packet as it comes off the wire, since both have to decode it.
 trait Player {

@@ -10,7 +10,7 @@ cd "$here/.."
 rt staticlib jitter_checked > /dev/null 2>&1
 work=$(mktemp -d)
 trap 'rm -rf "$work"' EXIT
-cp "$here"/jitter_times.rs "$work"
+cp "$here"/jitter_times.rs "$here"/jitter_exports.rs "$work"
 ln -s "$sources" "$work/rigflow"
 rustc --edition 2021 -O -A warnings -L "$PWD/target/staticlib" -o "$work/jitter_times" "$work/jitter_times.rs"
 "$work/jitter_times"

@@ -3,6 +3,7 @@
 // Arguments: a seed and the number of sessions. See udp.sh.
 #![allow(warnings)]
 include!("rigflow.rs");
+mod jitter_exports;
 mod original;
 mod random;
 mod udp_sender;

@@ -15,7 +15,7 @@ trap 'rm -rf "$work"' EXIT
 for crate in udp_checked jitter_checked; do
   rt staticlib "$crate" > "$work/log" 2>&1 || { tail -n 5 "$work/log"; echo "could not be built"; exit 2; }
 done
-cp "$here"/udp.rs "$here"/udp_sender.rs "$here"/udp_side.rs "$here"/original.rs "$here"/random.rs "$work"
+cp "$here"/udp.rs "$here"/jitter_exports.rs "$here"/udp_sender.rs "$here"/udp_side.rs "$here"/original.rs "$here"/random.rs "$work"
 ln -s "$sources" "$work/rigflow"
 for size in "1 1" "4 2" "5 3" "64 9" "200 4"; do
   read -r width height <<< "$size"

@@ -1,6 +1,7 @@
 // The crate's side of udp.rs: the exports, the state of both channels, and the two areas laid out as the receiver lends
 // them.
 use crate::original::{Settings, FIRST_SETTINGS};
+use crate::jitter_exports::jitter_play;
 use crate::random::Random;
 use crate::ui::layout::{WATERFALL_IMAGE_HEIGHT as HEIGHT, WATERFALL_IMAGE_WIDTH as WIDTH};
 use std::ops::Range;
@@ -12,12 +13,6 @@ extern "C" {
     fn udp_handle_waterfall_packet(sizes: &[usize], state: &mut [u64], display: &mut [f32], rows: &mut [f32], work: usize, picture: &mut [u32], payload: &[u8]) -> u64;
     fn udp_handle_audio_packet(sizes: &[usize], state: &mut [u64], fs: &mut [f32], us: &mut [u32], sequence: u32, payload: &[u8]) -> bool;
     fn udp_update_sequence_stats(counts: &mut [u64], sequence: u32) -> bool;
-}
-
-#[link(name = "jitter_checked", kind = "static")]
-#[allow(improper_ctypes)]
-extern "C" {
-    fn jitter_play(sizes: &[usize], state: &mut [u64], fs: &mut [f32], us: &mut [u32], out: &mut [f32], answer: &mut [u64]) -> bool;
 }
 
 pub fn update_counts(counts: &mut [u64], sequence: u32) -> bool {
