@@ -38,8 +38,7 @@ fn fail(what: &str, call: usize, sizes: &[usize; 6]) -> ! {
 }
 
 impl Session {
-    fn new(r: &mut Random) -> Session {
-        let [packet, target, max] = if r.below(400) == 0 { large_sizes(r) } else { small_sizes(r) };
+    fn new([packet, target, max]: [usize; 3]) -> Session {
         let most = (max + packet - 1) / packet;
         Session {
             sizes: [packet, target, max, 1, 1, 1],
@@ -112,13 +111,14 @@ impl Session {
 }
 
 fn session(r: &mut Random) -> usize {
-    let mut s = Session::new(r);
+    let sizes = if r.below(400) == 0 { large_sizes(r) } else { small_sizes(r) };
+    let mut s = Session::new(sizes);
     let calls = 5 + r.below(496) as usize;
     // near the wrap in a quarter of the sessions
     let mut next = if r.below(4) == 0 { u32::MAX - r.below(30) as u32 } else { r.below(1000) as u32 };
     for call in 0..calls {
-        match r.below(20) {
-            0..=11 => {
+        match r.below(200) {
+            0..=119 => {
                 let sequence = match r.below(10) {
                     0 => next.wrapping_sub(r.below(12) as u32),
                     1 => next.wrapping_add(r.below(12) as u32),
@@ -135,18 +135,33 @@ fn session(r: &mut Random) -> usize {
                 let samples: Vec<i16> = (0..n).map(|_| (r.next() >> 40) as i16).collect();
                 s.push(call, sequence, &samples);
             }
-            12..=18 => {
+            120..=198 => {
                 let n = r.below(2 * s.sizes[0] as u64 + 3) as usize;
                 s.play(call, n);
             }
-            _ => {
-                if r.below(12) == 0 {
-                    s.reset(call);
-                }
-            }
+            _ => s.reset(call),
         }
     }
     calls
+}
+
+// Packets of one sample, and so many wait that one fill takes tens of thousands of them, with some lost and doubled.
+fn long_fill(r: &mut Random) -> usize {
+    let mut s = Session::new([1, 65536, 131072]);
+    let mut call = 0;
+    let mut sequence = u32::MAX - 100_000;
+    while call < 70_000 {
+        s.push(call, sequence, &[(r.next() >> 40) as i16]);
+        call += 1;
+        if r.below(500) != 0 {
+            sequence += if r.below(1000) == 0 { 2 + r.below(4) as u32 } else { 1 };
+        }
+    }
+    for n in [65535, 7, 40_000, 0, 65535] {
+        s.play(call, n);
+        call += 1;
+    }
+    call
 }
 
 fn main() {
@@ -159,4 +174,6 @@ fn main() {
         calls += session(&mut r);
     }
     println!("{sessions} sessions, {calls} calls: all equal");
+    let calls = long_fill(&mut r);
+    println!("packets of one sample, {calls} calls, one fill of more than 65,000: all equal");
 }

@@ -188,7 +188,7 @@ pub record PushDone (z : Sizes) (j : JitterBuffer) (fs : List Float) (us : List 
 
 -- ---- question 3
 
--- the answer is the model's for allowed sizes and long enough parts, whatever the samples are, and else no
+-- where the f32 part is long enough, the answer is the model's for allowed sizes and a long enough u32 part, whatever the samples are, and else no
 abbrev pub HeldAsked : Sizes → JitterBuffer → List Float → List ℕ → ℕ → Bool → Type 0
 HeldAsked z j fs us calls r =
     queueAt (sizesOf z) + (z .target + z .packet) ≤ length fs

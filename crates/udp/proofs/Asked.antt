@@ -1,14 +1,25 @@
 -- Question 3 of what a channel shows, by the tests of the code; and it is the model's question of the channel. Assumes nothing.
 use mathlib.Core.Path.{_≡_, refl, sym, _∙_}
 use mathlib.Core.Bool.{Bool, true, false, not, _&&_, Bool·beq}
+use mathlib.Core.List.{List}
 use Prim.Native.Nat.{ℕ, _+_, _-_, _*_, _≤_, _<_}
 use native.Mathlib.Omega.{arith}
+use lib.ListN.{length, length-take, length-drop}
 use lib.Dec.{leb, ltb}
-use borrow.Author.Tests.{le-leb, lt-leb, lt-ltb, le-ltb}
+use lib.Ieee.{Float}
+use borrow.Author.Tests.{leb-true, leb-false, le-leb, lt-leb, lt-ltb, le-ltb}
+use Rattle.model.specs.Bytes.{part}
+use Rattle.model.specs.JitterBuffer.{Buffer}
+use Rattle.model.specs.Receiver.{rowHeld}
+use Rattle.model.proofs.BoolLaws.{by-test}
+use Rattle.sizes.specs.declared.Sizes.{Sizes}
+use Rattle.sizes.specs.View.{sizesOf}
 use Rattle.udp.specs.declared.reassembler.OpenRow.{OpenRow}
+use Rattle.udp.specs.declared.reassembler.WaterfallReassembler.{WaterfallReassembler}
 use Rattle.udp.specs.declared.reassembler.WaterfallReassembler.the-variants as State
 use Rattle.udp.specs.declared.packets.Screen.{Screen}
-use Rattle.udp.specs.Packets.{rowAsked, screenAsked}
+use Rattle.udp.specs.Rows.{rowOf}
+use Rattle.udp.specs.Packets.{rowAsked, screenAsked, channelOf}
 
 beq-false : (b : Bool) → not b ≡ Bool·beq b false
 beq-false true = refl
@@ -51,3 +62,30 @@ module _ (bins : ℕ) (s : Screen) where
   pub smoothing-left : rowAsked bins (s .row) ≡ true → s .«spectrum_len» ≤ bins → leb (s .«smooth_len») bins ≡ screenAsked bins s
   unfolding screenAsked
   smoothing-left held fits = rw (held, le-leb (s .«spectrum_len») bins fits)
+
+-- ---- the model's question of the channel
+
+row-asked-is : (z : Sizes) (r : WaterfallReassembler) (xs : List Float) → rowAsked (z .bins) r ≡ rowHeld (sizesOf z) (rowOf r xs)
+unfolding rowAsked rowHeld
+row-asked-is z State.NoRow xs = refl
+row-asked-is z (State.Open r) xs = refl
+
+-- a part that is longer than bins shows as longer, where there is room for one more
+length-asked : (bins at n : ℕ) (xs : List Float) → at + bins + 1 ≤ length xs → leb n bins ≡ leb (length (part at n xs)) bins
+length-asked bins at n xs room =
+    by-test (leb n bins)
+    (λ fits. let few = leb-true n bins fits in rw fits (sym (le-leb (length (part at n xs)) bins (simp (length-take, length-drop) (omega arith)))))
+    (λ long. let many = leb-false n bins long in rw long (sym (lt-leb (length (part at n xs)) bins (simp (length-take, length-drop) (omega arith)))))
+
+-- question 3 of the row and of the two lengths, of the channel whose values stand in lent memory
+pub screen-asked-is : (z : Sizes) (s : Screen) (b : Buffer Float) (rows : List Float) (picture : List ℕ) → 1 ≤ z .bins → 4 * z .bins ≤ length rows
+    → (let c = channelOf z b s rows picture in
+    screenAsked (z .bins) s
+    ≡ rowHeld (sizesOf z) (c .row) && (leb (length (c .spectrum)) (z .bins) && leb (length (c .smoothing)) (z .bins)))
+unfolding screenAsked
+screen-asked-is z s b rows picture some-bins room =
+    rw (
+      row-asked-is z (s .row) rows,
+      length-asked (z .bins) (z .bins) (s .«spectrum_len») rows (omega arith),
+      length-asked (z .bins) (2 * z .bins) (s .«smooth_len») rows (omega arith),
+    )

@@ -2,15 +2,15 @@
 use mathlib.Core.Path.{_≡_}
 use mathlib.Core.Bool.{Bool, true, _&&_, Bool·beq}
 use mathlib.Core.Option.{none}
-use mathlib.Core.List.{List, []}
+use mathlib.Core.List.{List}
 use Prim.Native.Nat.{ℕ, _+_, _-_, _*_, _≤_}
-use lib.ListN.{length, take}
+use lib.ListN.{take}
 use lib.Dec.{leb, ltb}
 use lib.Ieee.{Float}
 use Rattle.model.specs.Bytes.{part}
 use Rattle.model.specs.Sizes.{sizesAllowed}
 use Rattle.model.specs.JitterBuffer.{Buffer}
-use Rattle.model.specs.Receiver.{Channel, ChannelResult, Answer, row, rowHeld, withBuffer, audioInto, shownRow, waterfallInto}
+use Rattle.model.specs.Receiver.{Channel, row, withBuffer, audioInto, shownRow, waterfallInto}
 use Rattle.sizes.specs.declared.Sizes.{Sizes}
 use Rattle.sizes.specs.View.{sizesOf}
 use Rattle.jitter_buffer.specs.declared.JitterBuffer.{JitterBuffer}

@@ -7,11 +7,9 @@ use Rattle.audio_metrics.proofs.is_clean.Tie as tie
 use Rattle.audio_metrics.proofs.is_clean.Reads as reads
 use Rattle.audio_metrics.proofs.is_clean.Lts as lts
 
--- src/lib.rt:72:12
 add-result : tie.Need-add-result
 add-result c = search needs
 
--- src/lib.rt:68:1
 returns : tie.Need-returns
 unfolding passesGate
 returns c = refl

@@ -7,16 +7,13 @@ use Rattle.audio_metrics.proofs.min_after.Tie as tie
 use Rattle.audio_metrics.proofs.min_after.Reads as reads
 use Rattle.audio_metrics.proofs.min_after.Lts as lts
 
--- src/lib.rt:63:19
 add-relaxed : tie.Need-add-relaxed
 add-relaxed c = search needs
 
--- src/lib.rt:59:1
 returns : tie.Need-returns
 unfolding leastAfter
 returns c = omega arith
 
--- src/lib.rt:59:1
 returns-2 : tie.Need-returns-2
 unfolding leastAfter
 returns-2 c = omega arith

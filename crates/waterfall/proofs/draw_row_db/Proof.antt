@@ -26,7 +26,7 @@ mul-move-up-u32 c =
 move-up-u32-requires : tie.Need-move-up-u32-requires
 move-up-u32-requires c κs =
     let s = c .before .before .before in
-    (omega arith, omega (arith, s .pre .whole, top-and-rest (s .args .wf-width) (s .args .wf-height) (s .pre .some-rows)))
+    (omega (arith, s .pre .some-columns), omega (arith, s .pre .whole, top-and-rest (s .args .wf-width) (s .args .wf-height) (s .pre .some-rows)))
 
 zoom-window-requires : tie.Need-zoom-window-requires
 zoom-window-requires c κs = search needs

@@ -1,3 +1,4 @@
+-- `jitter_buffer::JitterBuffer::new` meets its contract: an empty view. Assumes nothing.
 use mathlib.Core.Path.{refl}
 use Rattle.jitter_buffer.specs.View.{packetsFrom}
 use Rattle.jitter_buffer.proofs.JitterBuffer.new.Statement.{statement}
@@ -5,7 +6,6 @@ use Rattle.jitter_buffer.proofs.JitterBuffer.new.Tie as tie
 use Rattle.jitter_buffer.proofs.JitterBuffer.new.Reads as reads
 use Rattle.jitter_buffer.proofs.JitterBuffer.new.Lts as lts
 
--- src/lib.rt:54:5
 returns : tie.Need-returns
 unfolding packetsFrom
 returns c = λ z fs us. refl
