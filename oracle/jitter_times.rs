@@ -1,5 +1,5 @@
 // Times the same pushes and plays in the original's JitterBuffer and in the crate jitter_buffer, through the
-// static library of jitter_checked, and checks that both played the same. See jitter_times.sh.
+// static library of jitter_checked, and checks that both played the same and had the same left. See jitter_times.sh.
 mod jitter_exports;
 use jitter_exports::{jitter_play, jitter_push};
 use std::time::{Duration, Instant};
@@ -63,8 +63,8 @@ struct Case {
     none: u32,
 }
 
-// The time of all calls, and a sum of the samples that were played.
-fn run(p: &mut dyn Player, case: &Case, payload: &[u8]) -> (Duration, f64) {
+// The time of all calls, a sum of the samples that were played, and what is left at the end.
+fn run(p: &mut dyn Player, case: &Case, payload: &[u8]) -> (Duration, f64, Vec<f32>) {
     let packet = case.sizes[0];
     let mut out = vec![0.0; packet];
     let mut sum = 0.0;
@@ -80,7 +80,10 @@ fn run(p: &mut dyn Player, case: &Case, payload: &[u8]) -> (Duration, f64) {
     for _ in 0..case.none {
         p.play(&mut []);
     }
-    (start.elapsed(), sum)
+    let took = start.elapsed();
+    let mut left = vec![0.0; 65535];
+    p.play(&mut left);
+    (took, sum, left)
 }
 
 fn main() {
@@ -98,9 +101,10 @@ fn main() {
         let payload: Vec<u8> = (0..2 * packet).map(|i| (i * 7 + 3) as u8).collect();
         let mut best = [Duration::MAX; 2];
         for _ in 0..5 {
-            let (a, x) = run(&mut original::JitterBuffer::new(packet, target, max), case, &payload);
-            let (b, y) = run(&mut ours(packet, target, max), case, &payload);
+            let (a, x, left_a) = run(&mut original::JitterBuffer::new(packet, target, max), case, &payload);
+            let (b, y, left_b) = run(&mut ours(packet, target, max), case, &payload);
             assert_eq!(x, y);
+            assert_eq!(left_a, left_b);
             best = [best[0].min(a), best[1].min(b)];
         }
         let ms = |d: Duration| format!("{:.2} ms", d.as_secs_f64() * 1000.0);

@@ -139,7 +139,7 @@ pub extern "C" fn tape_put_setup(
     target: &mut [u8],
     place: usize,
     packet: usize,
-    play: usize,
+    queue_target: usize,
     max: usize,
     bins: usize,
     width: usize,
@@ -151,11 +151,11 @@ pub extern "C" fn tape_put_setup(
     b2: u32,
     b3: u32,
 ) -> u64
-    ensures { λ r. ⌜ PutHanded (putSetup place (modelSetup (record { packet = «packet»; target = «play»; max = «max»; bins = «bins»; width = «width»; height = «height» }) (record { top = a1; floor = a2; range = a3 }) (record { top = b1; floor = b2; range = b3 })) (now (target .entry))) (now (target .entry)) (now (target .exit)) r ⌝ }
+    ensures { λ r. ⌜ PutHanded (putSetup place (modelSetup (record { packet = «packet»; target = «queue_target»; max = «max»; bins = «bins»; width = «width»; height = «height» }) (record { top = a1; floor = a2; range = a3 }) (record { top = b1; floor = b2; range = b3 })) (now (target .entry))) (now (target .entry)) (now (target .exit)) r ⌝ }
 {
     let z = Sizes {
         packet,
-        target: play,
+        target: queue_target,
         max,
         bins,
         width,
