@@ -2,19 +2,13 @@
 # Holds the definitions of crates/model against the original by running both.
 #   oracle/definitions.sh SOURCES [SEED] [COUNT]
 # SOURCES is the folder that has rigflow-core/ and rigflow-client/. Exit status 0: every session is equal.
-set -eu
-here=$(cd "$(dirname "$0")" && pwd)
-sources=$(cd "$1" && pwd)
+. "$(dirname "$0")/common.sh"
+original "$1"
 seed=${2:-1}
 count=${3:-100}
-work=$(mktemp -d)
-trap 'rm -rf "$work"' EXIT
-cp "$here"/rigflow.rs "$here"/original.rs "$here"/definitions.rs "$work"
-ln -s "$sources" "$work/rigflow"
-rustc --edition 2021 -O -A warnings -o "$work/definitions" "$work/definitions.rs"
 mkdir -p "$work/model/src" "$work/model/proofs"
 : > "$work/model/src/lib.rt"
-cp -r "$here/../crates/model/specs" "$work/model/specs"
+cp -r "$root/crates/model/specs" "$work/model/specs"
 module="$work/model/specs/Sessions.antt"
 # the sessions' imports and the list of what they open, then the numbers that are compared, then the equations
 sed -i '/^-- ---- the jitter buffer/,$d' "$module"
@@ -89,7 +83,7 @@ digest x cs =
     ++ clockDigest (s .clock))))))))))))))))
 
 ANTT
-"$work/definitions" "$seed" "$count" >> "$module"
+run definitions "$seed" "$count" >> "$module"
 if ! rt check "$work/model" > "$work/log" 2>&1; then
   grep -q 'error: `session-' "$work/log" || { tail -n 5 "$work/log"; echo "could not be run"; exit 2; }
   grep 'error: `session-' "$work/log" | cut -c1-400

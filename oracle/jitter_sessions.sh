@@ -14,12 +14,6 @@
 # and of a play taken, dropped, short, and each sample's bits in hex. The original does not tell taken
 # from dropped: dropped is what leaves its buffer where the same play asks for no sample. What it does not
 # count is filled: the samples that were short, and a packet for each one concealed, since the reset.
-set -eu
-here=$(cd "$(dirname "$0")" && pwd)
-sources=$(cd "$1" && pwd)
-work=$(mktemp -d)
-trap 'rm -rf "$work"' EXIT
-cp "$here"/jitter_sessions.rs "$work"
-ln -s "$sources" "$work/rigflow"
-rustc --edition 2021 -O -A warnings -o "$work/jitter_sessions" "$work/jitter_sessions.rs"
-"$work/jitter_sessions"
+. "$(dirname "$0")/common.sh"
+original "$1"
+run jitter_sessions

@@ -7,6 +7,7 @@ use random::Random;
 
 use std::process::exit;
 
+#[link(name = "tape_exports", kind = "static")]
 extern "C" {
     fn tape_check(tape: *const u8, n: usize) -> u64;
     fn tape_setup(tape: *const u8, n: usize, out: *mut u64, m: usize) -> u64;

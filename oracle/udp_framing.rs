@@ -10,6 +10,7 @@ mod udp_framing;
 use udp_framing::*;
 
 // A slice goes as a pointer and a length.
+#[link(name = "udp_framing_exports", kind = "static")]
 extern "C" {
     fn udp_framing_parse_media_header(packet: *const u8, packet_len: usize, numbers: *mut u64, numbers_len: usize) -> bool;
     fn udp_framing_is_valid_header(magic: u16, version: u8) -> bool;

@@ -2,13 +2,8 @@
 # Prints the sessions that crates/udp_vectors reads, with what the original showed in each.
 #   oracle/udp_sessions.sh SOURCES > crates/udp_vectors/stdin
 # SOURCES is the folder that has rigflow-core/ and rigflow-client/.
-set -eu
-here=$(cd "$(dirname "$0")" && pwd)
-sources=$(cd "$1" && pwd)
-work=$(mktemp -d)
-trap 'rm -rf "$work"' EXIT
-cp "$here"/udp_sessions.rs "$here"/original.rs "$work"
-ln -s "$sources" "$work/rigflow"
+. "$(dirname "$0")/common.sh"
+original "$1"
 cat <<'TEXT'
 # Sessions of one channel, with what the original showed. oracle/udp_sessions.sh prints this file.
 # Numbers are hexadecimal, floats by their bits. A line's letter says what it is:
@@ -25,9 +20,6 @@ cat <<'TEXT'
 #   Q  a sequence of a stream, and then its packets, its dropped ones (high word, low word) and its late ones
 TEXT
 for size in "4 2" "8 2" "256 1"; do
-  read -r width height <<< "$size"
-  sed -e "s/\(WATERFALL_IMAGE_WIDTH: usize =\) [0-9]*/\1 $width/" \
-    -e "s/\(WATERFALL_IMAGE_HEIGHT: usize =\) [0-9]*/\1 $height/" "$here/rigflow.rs" > "$work/rigflow.rs"
-  rustc --edition 2021 -O -A warnings -o "$work/udp_sessions" "$work/udp_sessions.rs"
-  "$work/udp_sessions"
+  picture $size
+  run udp_sessions
 done
