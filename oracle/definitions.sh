@@ -12,7 +12,8 @@ cp -r "$root/crates/model/specs" "$work/model/specs"
 module="$work/model/specs/Sessions.antt"
 # the sessions' imports and the list of what they open, then the numbers that are compared, then the equations
 sed -i '/^-- ---- the jitter buffer/,$d' "$module"
-sed -i 's/^use lib.Count as Count$/&\nuse lib.ListN.{length}\nuse Rattle.model.specs.Receiver.{reset, set, probe, oneWay, depth, transmitDepth, refused, accepted}/' "$module"
+sed -i 's/^use mathlib.Core.Bool.{true}$/use mathlib.Core.Bool.{true, false}/' "$module"
+sed -i 's/^use lib.ListN.{replicate}$/use lib.ListN.{replicate, length}\nuse Rattle.model.specs.Receiver.{Lent, reset, set, probe, oneWay, depth, transmitDepth, refused, accepted}/' "$module"
 cat >> "$module" <<'ANTT'
 setupOf : ℕ → ℕ → ℕ → ℕ → ℕ → ℕ → ℕ → ℕ → ℕ → ℕ → Setup
 setupOf packet target max bins t f r u g s =

@@ -95,9 +95,10 @@ impl Ours {
         self.part(channel, 2, self.screen[channel][6] as usize)
     }
 
-    // A's rows are lent with all that lies behind them, B's from their own place on; the work section is the last.
+    // A's rows are lent with B's section behind them, B's from their own place on; the work section is the last.
     pub fn waterfall(&mut self, channel: usize, payload: &[u8]) -> u64 {
         let at = channel * self.section() + self.row();
+        let end = 2 * self.section() + self.bins();
         let work = 2 * self.section() - at;
         let picture = self.picture(channel);
         unsafe {
@@ -105,7 +106,7 @@ impl Ours {
                 &self.sizes,
                 &mut self.screen[channel],
                 &mut self.display[channel],
-                &mut self.fs[at..],
+                &mut self.fs[at..end],
                 work,
                 &mut self.us[picture],
                 payload,
@@ -114,16 +115,14 @@ impl Ours {
     }
 
     pub fn audio(&mut self, channel: usize, sequence: u32, payload: &[u8]) -> bool {
-        let f = channel * self.section()..(channel + 1) * self.section();
-        let u = channel * self.word_section()..(channel + 1) * self.word_section();
+        let ([f, _], u) = self.lent_to_audio(channel);
         unsafe {
             udp_handle_audio_packet(&self.sizes, &mut self.jitter[channel], &mut self.fs[f], &mut self.us[u], sequence, payload)
         }
     }
 
     pub fn play(&mut self, channel: usize, out: &mut [f32]) -> bool {
-        let f = channel * self.section()..(channel + 1) * self.section();
-        let u = channel * self.word_section()..(channel + 1) * self.word_section();
+        let ([f, _], u) = self.lent_to_audio(channel);
         let mut answer = [0; 3];
         unsafe { jitter_play(&self.sizes, &mut self.jitter[channel], &mut self.fs[f], &mut self.us[u], out, &mut answer) }
     }
@@ -247,10 +246,11 @@ const SIZES: [Case; 13] = [
 ];
 
 // Of 5 bins and a picture of 4 by 2, with 2 bins of row 7 filled.
-const WATERFALL: [Case; 21] = [
+const WATERFALL: [Case; 22] = [
     ("seven numbers of state", |c| c.state.truncate(7)),
     ("six floats of display", |c| c.display.truncate(6)),
     ("rows one place short", |c| c.rows.truncate(19)),
+    ("rows one place long", |c| c.rows.push(0.0)),
     ("no rows", |c| c.rows.clear()),
     ("work one place later", |c| c.work = 16),
     ("work over the smoothing", |c| c.work = 14),
@@ -272,10 +272,12 @@ const WATERFALL: [Case; 21] = [
 ];
 
 // Of packet 2, target 4 and max 8, started at 5, with 7 and 9 waiting and one sample queued.
-const AUDIO: [Case; 10] = [
+const AUDIO: [Case; 12] = [
     ("thirteen numbers of state", |c| c.state.truncate(13)),
     ("floats one place short", |c| c.rows.truncate(13)),
+    ("floats one place long", |c| c.rows.push(0.0)),
     ("words one place short", |c| c.picture.truncate(3)),
+    ("words one place long", |c| c.picture.push(0)),
     ("five waiting", |c| c.state[3] = 5),
     ("waiting at the largest number", |c| c.state[3] = u64::MAX),
     ("a full queue", |c| c.state[4] = 6),

@@ -17,13 +17,13 @@ pub fn move_down(a: &mut [f32], from: usize, to: usize, n: usize)
     }
 }
 
-pub fn move_down_u32(a: &mut [u32], from: usize, to: usize, n: usize)
-    requires { ⌜ (to ≤ from) × (from + n ≤ length (now a)) ⌝ }
-    ensures { λ r. ⌜ now (a .exit) ≡ moved from to n (now (a .entry)) ⌝ }
+pub fn move_down_u32(us: &mut [u32], from: usize, to: usize, n: usize)
+    requires { ⌜ (to ≤ from) × (from + n ≤ length (now us)) ⌝ }
+    ensures { λ r. ⌜ now (us .exit) ≡ moved from to n (now (us .entry)) ⌝ }
 {
     let mut i = 0;
     while i < n {
-        a[to + i] = a[from + i];
+        us[to + i] = us[from + i];
         i += 1;
     }
 }
@@ -33,21 +33,21 @@ pub fn move_up(a: &mut [f32], from: usize, to: usize, n: usize)
     requires { ⌜ (from ≤ to) × (to + n ≤ length (now a)) ⌝ }
     ensures { λ r. ⌜ now (a .exit) ≡ moved from to n (now (a .entry)) ⌝ }
 {
-    let mut i = n;
-    while 0 < i {
-        i -= 1;
-        a[to + i] = a[from + i];
+    let mut left = n;
+    while 0 < left {
+        left -= 1;
+        a[to + left] = a[from + left];
     }
 }
 
-pub fn move_up_u32(a: &mut [u32], from: usize, to: usize, n: usize)
-    requires { ⌜ (from ≤ to) × (to + n ≤ length (now a)) ⌝ }
-    ensures { λ r. ⌜ now (a .exit) ≡ moved from to n (now (a .entry)) ⌝ }
+pub fn move_up_u32(us: &mut [u32], from: usize, to: usize, n: usize)
+    requires { ⌜ (from ≤ to) × (to + n ≤ length (now us)) ⌝ }
+    ensures { λ r. ⌜ now (us .exit) ≡ moved from to n (now (us .entry)) ⌝ }
 {
-    let mut i = n;
-    while 0 < i {
-        i -= 1;
-        a[to + i] = a[from + i];
+    let mut left = n;
+    while 0 < left {
+        left -= 1;
+        us[to + left] = us[from + left];
     }
 }
 

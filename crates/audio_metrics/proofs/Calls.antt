@@ -4,7 +4,7 @@ use mathlib.Core.Bool.{Bool, true, false}
 use mathlib.Core.List.{List}
 use Prim.Native.Nat.{ℕ}
 use Rattle.model.specs.Clock.{Clock}
-use Rattle.model.specs.Receiver.{clockHeld}
+use Rattle.model.specs.Questions.{clockHeld}
 use Rattle.audio_metrics.specs.Words.{clockIn, clockWords, acts, wordsAfter}
 
 module _ (allowed : Bool) (f : Clock → Clock) (w : List ℕ) where

@@ -12,7 +12,7 @@ use borrow.Author.Tests.{leb-true, leb-false, le-ltb}
 use mir.Syntax.{w64}
 use mir.Val.{SFits}
 use Rattle.model.specs.Clock.{Timing, Clock, bits64, signed64, low64, oneWayOf, oneWayInRange}
-use Rattle.model.specs.Receiver.{oneWayHeld, timingHeld, clockHeld}
+use Rattle.model.specs.Questions.{oneWayHeld, timingHeld, clockHeld}
 use Rattle.model.proofs.BoolLaws.{first-of-both, second-of-both}
 use Rattle.audio_metrics.specs.Requires.{DelayFits}
 use Rattle.model.proofs.ProbeWords.{bits-of-difference}

@@ -10,7 +10,7 @@ use lib.Dec.{T, leb, ltb}
 use borrow.Author.Tests.{leb-true, leb-false, ltb-true, lt-ltb}
 use Rattle.model.specs.Sizes.{between}
 use Rattle.model.specs.Clock.{Timing, Clock, timingAfter, probed, recordProbe}
-use Rattle.model.specs.Receiver.{offsetAllowed, timingHeld, clockHeld, oneWayHeld, probeAllowed, clockBound}
+use Rattle.model.specs.Questions.{offsetAllowed, timingHeld, clockHeld, oneWayHeld, probeAllowed, clockBound}
 use Rattle.model.proofs.BoolLaws.{first-of-both, second-of-both}
 use Rattle.model.proofs.SizeLaws.{between-facts}
 use Rattle.audio_metrics.specs.Requires.{TimingFits}

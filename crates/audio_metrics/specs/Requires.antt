@@ -6,11 +6,11 @@ use Prim.Native.Nat.{ℕ, _<_, _≤_, _^_}
 use lib.IntN.{ℤ, pos, negsuc}
 use lib.Signed.{mag, ltZ}
 use Rattle.model.specs.Clock.{Timing, Clock}
-use Rattle.model.specs.Receiver.{clockHeld, probeAllowed}
+use Rattle.model.specs.Questions.{clockHeld, probeAllowed}
 
--- a step by a divisor above 0 between two numbers whose difference fits
+-- a step by a divisor above 1 between two numbers whose difference fits
 pub record StepFits (n old new : ℤ) : Type 0 where
-  pub divisor : ltZ (pos 0) n ≡ true
+  pub divisor : ltZ (pos 1) n ≡ true
   pub old-fits : mag old < 2 ^ 62
   pub new-fits : mag new < 2 ^ 62
 

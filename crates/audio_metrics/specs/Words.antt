@@ -9,7 +9,7 @@ use lib.Dec.{eqb}
 use lib.Ieee.{Float}
 use Rattle.model.specs.Floats.{fromBits, toBits}
 use Rattle.model.specs.Clock.{Timing, Depth, Clock, bits64, signed64}
-use Rattle.model.specs.Receiver.{clockHeld}
+use Rattle.model.specs.Questions.{clockHeld}
 
 -- ---- words read: a flag of 0 says that the numbers after it are absent
 

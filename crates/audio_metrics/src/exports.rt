@@ -3,7 +3,7 @@
 ghost use mathlib.Core.Path.{_≡_};
 ghost use mathlib.Core.Bool.{true};
 ghost use Rattle.model.specs.Floats.{toBits};
-ghost use Rattle.model.specs.Receiver.{clockHeld, probeAllowed, depthAllowed};
+ghost use Rattle.model.specs.Questions.{clockHeld, probeAllowed, depthAllowed};
 ghost use Rattle.model.specs.Clock.{freshClock, recordProbe, recordOneWay, recordDepth, recordTransmit, oneWayMs, roundTripMs, offsetMs, depthMs, depthPeakMs};
 ghost use Rattle.audio_metrics.specs.Views.{readingOf};
 ghost use Rattle.audio_metrics.specs.Words.{clockIn, clockWords, acts, wordsAfter, readingWord};

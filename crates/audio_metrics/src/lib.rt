@@ -9,7 +9,7 @@ ghost use Prim.Native.Nat.{_<_, _≤_, _^_};
 ghost use mathlib.Core.Bool.{true};
 ghost use mathlib.Core.Option.{some};
 ghost use lib.IntN.{natAbs};
-ghost use Rattle.model.specs.Receiver.{clockBound, offsetAllowed, timingHeld, oneWayHeld, clockHeld, probeAllowed, depthAllowed};
+ghost use Rattle.model.specs.Questions.{clockBound, offsetAllowed, timingHeld, oneWayHeld, clockHeld, probeAllowed, depthAllowed};
 ghost use Rattle.model.specs.Sizes.{between};
 ghost use Rattle.model.specs.Clock.{freshClock, stepToward, leastAfter, passesGate, timingAfter, recordProbe, bits64, oneWayInRange, oneWayOf, oneWayAfter, recordOneWay, samplesMs, depthAfter, recordDepth, recordTransmit, inMs, oneWayMs, roundTripMs, offsetMs, depthMs, depthPeakMs};
 ghost use Rattle.audio_metrics.specs.Requires.{StepFits, ProbeFits, Probed, OneWayFits};
@@ -17,6 +17,17 @@ ghost use Rattle.audio_metrics.specs.Views.{timingOf, knownOf, delayOf, 
 use std::num::wrapping_add_u64;
 use std::num::wrapping_sub_u64;
 use udp_framing::words::as_signed;
+
+const SAMPLE_RATE_HZ: f32 = 48_000.0;
+
+// The weight of a new depth in the slow average.
+const JITTER_AVG_ALPHA: f32 = 0.01;
+
+// What a new depth leaves of the recent peak.
+const JITTER_PEAK_DECAY: f32 = 0.999;
+
+// The same of the transmit ring.
+const TX_RING_PEAK_DECAY: f32 = 0.99;
 
 // Server − client clock offset, the last round trip, and the running least that gates clean offsets.
 pub struct ClockTiming {
@@ -139,12 +150,12 @@ fn one_way_after(old: OneWay, new: i64) -> i64
     step_toward(8, known, new)
 }
 
-// A number of samples in ms, at 48,000 a second.
+// A number of samples in ms.
 fn samples_ms(samples: usize) -> f32
     requires { ⌜ samples ≤ 16777216 ⌝ }
     ensures { λ r. ⌜ r ≡ samplesMs samples ⌝ }
 {
-    samples as f32 / 48000.0 * 1000.0
+    samples as f32 / SAMPLE_RATE_HZ * 1000.0
 }
 
 // The depth after a new one: the first is taken whole, then the average moves slowly and the peak decays.
@@ -160,8 +171,8 @@ fn depth_after(jitter: Jitter, now: f32) -> JitterDepth
     let avg = d.jitter_avg_ms;
     let peak = d.jitter_peak_ms;
     JitterDepth {
-        jitter_avg_ms: avg + 0.01 * (now - avg),
-        jitter_peak_ms: floats::max(now, peak * 0.999),
+        jitter_avg_ms: avg + JITTER_AVG_ALPHA * (now - avg),
+        jitter_peak_ms: floats::max(now, peak * JITTER_PEAK_DECAY),
     }
 }
 
@@ -378,7 +389,7 @@ impl AudioMetrics {
             late: self.late,
             overflow: self.overflow,
             resyncs: self.resyncs,
-            tx_ring_peak_ms: floats::max(samples_ms(samples), peak * 0.99),
+            tx_ring_peak_ms: floats::max(samples_ms(samples), peak * TX_RING_PEAK_DECAY),
         }
     }
 

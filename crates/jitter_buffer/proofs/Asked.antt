@@ -1,7 +1,6 @@
 -- Question 3 on the fields and the sequences is the model's question on the view. Assumes nothing.
 use mathlib.Core.Path.{_≡_, refl, sym, _∙_, ap}
 use mathlib.Core.Bool.{Bool, true, false, _&&_, cond, and-eq-true-iff, and-assoc, and-true}
-use mathlib.Core.Option.{Option, none, some}
 use mathlib.Core.List.{List, [], _∷_}
 use Prim.Native.Nat.{ℕ, zero, suc, _+_, _-_, _*_, _/_, _≤_, _<_, max}
 use native.Mathlib.Nat.{sub-zero, suc-add, add-suc, add-zero, zero-add, div-lt-iff-lt-mul}
@@ -11,11 +10,13 @@ use lib.Dec.{leb, ltb, eqb}
 use lib.Ieee.{Float}
 use borrow.Author.Tests.{ltb-true, ltb-false, leb-true, leb-false, eqb-true, eqb-false, lt-ltb, le-ltb, le-leb, lt-leb, eq-eqb, ne-eqb}
 use Rattle.model.specs.Sizes.{mostWaiting}
-use Rattle.model.specs.JitterBuffer.{Packet, Buffer, Counters}
-use Rattle.model.specs.Receiver.{mostCalls, all, sequences, strictlyRising, startHeld, countersHeld, bufferHeld}
+use Rattle.model.specs.JitterBuffer.{Counters}
+use Rattle.model.specs.Bytes.{all}
+use Rattle.model.specs.Questions.{mostCalls, sequences, strictlyRising, startHeld, countersHeld, bufferHeld}
 use Rattle.model.proofs.BoolLaws.{by-test, clash}
-use Rattle.sizes.specs.declared.Sizes.{Sizes}
-use Rattle.sizes.specs.View.{sizesOf, queueAt}
+use Rattle.calls.specs.declared.Sizes.{Sizes}
+use Rattle.calls.specs.Views.{sizesOf}
+use Rattle.sizes.specs.View.{queueAt}
 use Rattle.jitter_buffer.specs.declared.JitterBuffer.{JitterBuffer}
 use Rattle.jitter_buffer.specs.declared.NextSequence.{NextSequence}
 use Rattle.jitter_buffer.specs.declared.NextSequence.the-variants.{NotStarted, Next}

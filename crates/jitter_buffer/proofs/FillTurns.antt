@@ -9,11 +9,12 @@ use lib.ListN.{length}
 use lib.Ieee.{Float}
 use Rattle.model.specs.Floats.{f0}
 use Rattle.model.specs.Sizes.{sizesAllowed, mostWaiting}
-use Rattle.model.specs.JitterBuffer.{Buffer, Step, moved, concealed, stopped, does, act, fill}
+use Rattle.model.specs.JitterBuffer.{Buffer, Step, moved, concealed, stopped, stepDue, afterStep, fill}
 use Rattle.model.proofs.SizeLaws.{Allowed, allowed}
 use Rattle.model.proofs.FillStep.{Loose, Flow, flow-none, flow-then, step-keeps, step-flows, Queued, moved-queues, concealed-queues}
-use Rattle.sizes.specs.declared.Sizes.{Sizes}
-use Rattle.sizes.specs.View.{sizesOf, queueAt}
+use Rattle.calls.specs.declared.Sizes.{Sizes}
+use Rattle.calls.specs.Views.{sizesOf}
+use Rattle.sizes.specs.View.{queueAt}
 use Rattle.jitter_buffer.specs.declared.JitterBuffer.{JitterBuffer}
 use Rattle.jitter_buffer.specs.declared.Turn.the-variants.{More, Done}
 use Rattle.jitter_buffer.specs.View.{viewFrom, viewOf}
@@ -46,11 +47,11 @@ begins z j fs us p =
       same = refl;
     }
 
-step-queues : (filler : Float) (z : Sizes) (b : Buffer Float) → Loose (sizesOf z) b → (does (sizesOf z) b ≡ stopped → ⊥)
-    → Queued (sizesOf z) b (act filler (sizesOf z) (does (sizesOf z) b) b)
-step-queues filler z b l n = go (does (sizesOf z) b) refl
+step-queues : (filler : Float) (z : Sizes) (b : Buffer Float) → Loose (sizesOf z) b → (stepDue (sizesOf z) b ≡ stopped → ⊥)
+    → Queued (sizesOf z) b (afterStep filler (sizesOf z) (stepDue (sizesOf z) b) b)
+step-queues filler z b l n = go (stepDue (sizesOf z) b) refl
   where
-    go : (d : Step) → does (sizesOf z) b ≡ d → Queued (sizesOf z) b (act filler (sizesOf z) d b)
+    go : (d : Step) → stepDue (sizesOf z) b ≡ d → Queued (sizesOf z) b (afterStep filler (sizesOf z) d b)
     go (moved s) e = moved-queues filler (sizesOf z) b s e l
     go (concealed s) e = concealed-queues filler (sizesOf z) b s e
     go stopped e = absurd (n e)
@@ -107,5 +108,5 @@ module _ (z : Sizes) (fs₀ : List Float) (us : List ℕ) (j : JitterBuffer) (fs
   pub can-close : Closing z b fs us taken
   can-close = record { allowed = w .sizes; lent = w .lent; waiting = w .waiting; place = w .place; queue = queue-fits }
 
-  pub ends : does (sizesOf z) (viewFrom taken z b fs us) ≡ stopped → viewFrom taken z b fs us ≡ fill f0 (sizesOf z) (viewOf z j fs₀ us)
+  pub ends : stepDue (sizesOf z) (viewFrom taken z b fs us) ≡ stopped → viewFrom taken z b fs us ≡ fill f0 (sizesOf z) (viewOf z j fs₀ us)
   ends e = sym (fill-stopped f0 (sizesOf z) (viewFrom taken z b fs us) e) ∙ w .same

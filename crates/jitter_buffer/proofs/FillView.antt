@@ -15,13 +15,14 @@ use Rattle.model.specs.Bytes.{part, placed}
 use Rattle.model.specs.Floats.{f0}
 use Rattle.model.specs.Framing.{nextSequence}
 use Rattle.model.specs.Sizes.{mostWaiting}
-use Rattle.model.specs.JitterBuffer.{Packet, Buffer, Counters, Step, moved, concealed, stopped, isWaiting, samplesAt, without, earliest, withNext, does, act, resynced, countConcealed, countResync}
+use Rattle.model.specs.JitterBuffer.{Packet, Buffer, Counters, Step, moved, concealed, stopped, isWaiting, samplesAt, without, earliest, withNext, stepDue, afterStep, resynced, countConcealed, countResync}
 use Rattle.model.proofs.BoolLaws.{by-test, clash}
 use Rattle.model.proofs.Waiting.{RisingFrom, waiting-not-below}
 use Rattle.model.proofs.FillStep.{Loose, lowest}
 use Rattle.areas.proofs.Placed.{part-length, part-part, part-before, part-behind, part-within, getD-part, placed-within}
-use Rattle.sizes.specs.declared.Sizes.{Sizes}
-use Rattle.sizes.specs.View.{sizesOf, queueAt}
+use Rattle.calls.specs.declared.Sizes.{Sizes}
+use Rattle.calls.specs.Views.{sizesOf}
+use Rattle.sizes.specs.View.{queueAt}
 use Rattle.jitter_buffer.specs.declared.JitterBuffer.{JitterBuffer}
 use Rattle.jitter_buffer.specs.declared.NextSequence.{NextSequence}
 use Rattle.jitter_buffer.specs.declared.NextSequence.the-variants.{NotStarted, Next}
@@ -72,8 +73,8 @@ module _ (z : Sizes) (j : JitterBuffer) (fs : List Float) (us : List ℕ) (taken
   queue-length fits = part-length (queueAt (sizesOf z)) (j .«playout_len») fs fits
 
   pub step-does : queueAt (sizesOf z) + j .«playout_len» ≤ length fs → Loose (sizesOf z) (viewFrom taken z j fs us)
-      → stepOf (fillStepOf (z .target) j us taken) ≡ does (sizesOf z) (viewFrom taken z j fs us)
-  unfolding fillStepOf does
+      → stepOf (fillStepOf (z .target) j us taken) ≡ stepDue (sizesOf z) (viewFrom taken z j fs us)
+  unfolding fillStepOf stepDue
   step-does fits l =
       rw (queue-length fits)
       (by-test (ltb (j .«playout_len») (z .target))
@@ -96,8 +97,8 @@ module _ (z : Sizes) (j : JitterBuffer) (fs : List Float) (us : List ℕ) (taken
     -- the packet at the front is taken
     pub moved-view : (s : ℕ) → taken < j .«pending_len» → getD us taken 0 ≡ s
         → viewFrom (taken + 1) z (movedFields (z .packet) s j) (placed (queueAt (sizesOf z) + j .«playout_len») (part (taken * z .packet) (z .packet) fs) fs) us
-        ≡ act f0 (sizesOf z) (moved s) (viewFrom taken z j fs us)
-    unfolding act packetsFrom without samplesAt
+        ≡ afterStep f0 (sizesOf z) (moved s) (viewFrom taken z j fs us)
+    unfolding afterStep packetsFrom without samplesAt
     moved-view s waits front =
         let at = queueAt (sizesOf z) + j .«playout_len» in
         let ys = part (taken * z .packet) (z .packet) fs in
@@ -125,16 +126,16 @@ module _ (z : Sizes) (j : JitterBuffer) (fs : List Float) (us : List ℕ) (taken
 
     pub concealed-view : (s : ℕ) → taken ≤ j .«pending_len» → j .«consecutive_conceals» + 1 < 3
         → viewFrom taken z (concealedFields (z .packet) s j) (placed (queueAt (sizesOf z) + j .«playout_len») (replicate (z .packet) f0) fs) us
-        ≡ act f0 (sizesOf z) (concealed s) (viewFrom taken z j fs us)
-    unfolding act resynced countConcealed
+        ≡ afterStep f0 (sizesOf z) (concealed s) (viewFrom taken z j fs us)
+    unfolding afterStep resynced countConcealed
     concealed-view s place few =
         rw (lt-leb 3 (j .«consecutive_conceals» + 1) few, filler-waiting place, filler-queue)
 
     -- the third in a row: next is the sequence at the front
     pub resynced-view : (s : ℕ) → taken < j .«pending_len» → 3 ≤ j .«consecutive_conceals» + 1
         → viewFrom taken z (resyncedFields (getD us taken 0) (concealedFields (z .packet) s j)) (placed (queueAt (sizesOf z) + j .«playout_len») (replicate (z .packet) f0) fs) us
-        ≡ act f0 (sizesOf z) (concealed s) (viewFrom taken z j fs us)
-    unfolding act resynced countConcealed countResync packetsFrom earliest
+        ≡ afterStep f0 (sizesOf z) (concealed s) (viewFrom taken z j fs us)
+    unfolding afterStep resynced countConcealed countResync packetsFrom earliest
     resynced-view s place many =
         let one : j .«pending_len» - taken ≡ suc (j .«pending_len» - taken - 1) = omega arith in
         rw (le-leb 3 (j .«consecutive_conceals» + 1) many, filler-waiting (omega arith), filler-queue, one)

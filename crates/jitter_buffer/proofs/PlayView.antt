@@ -16,8 +16,9 @@ use Rattle.model.specs.Sizes.{mostWaiting}
 use Rattle.model.specs.JitterBuffer.{Buffer, Played, PlayResult, handOut, countShort}
 use Rattle.model.proofs.BoolLaws.{by-test}
 use Rattle.areas.proofs.Placed.{part-length, getD-part, part-within, placed-none}
-use Rattle.sizes.specs.declared.Sizes.{Sizes}
-use Rattle.sizes.specs.View.{sizesOf, queueAt}
+use Rattle.calls.specs.declared.Sizes.{Sizes}
+use Rattle.calls.specs.Views.{sizesOf}
+use Rattle.sizes.specs.View.{queueAt}
 use Rattle.jitter_buffer.specs.declared.JitterBuffer.{JitterBuffer}
 use Rattle.jitter_buffer.specs.View.{packetsFrom, viewOf}
 use Rattle.jitter_buffer.specs.Fields.{playedFields}

@@ -11,7 +11,7 @@ use lib.Ieee.{Float}
 use borrow.Author.Tests.{le-leb, lt-leb}
 use Rattle.model.specs.Floats.{f0}
 use Rattle.model.specs.Sizes.{sizesAllowed, mostWaiting}
-use Rattle.model.specs.Receiver.{mostCalls, bufferHeld}
+use Rattle.model.specs.Questions.{mostCalls, bufferHeld}
 use Rattle.model.specs.JitterBuffer.{Buffer, Played, PlayResult, isStarted, fill, tooLong, dropCount, handOut, playFilled, playFillers, play, counting, countShort}
 use Rattle.model.proofs.SizeLaws.{Allowed, allowed}
 use Rattle.model.proofs.FillStep.{Loose, Flow}
@@ -19,19 +19,21 @@ use Rattle.model.proofs.Fill.{fill-keeps, fill-flows}
 use Rattle.model.proofs.BufferKept.{Kept, Moves, Grown}
 use Rattle.model.proofs.Held.{Within}
 use Rattle.model.proofs.Play.{drop-in-queue, play-keeps, play-moves}
-use Rattle.sizes.specs.declared.Sizes.{Sizes}
-use Rattle.sizes.specs.View.{sizesOf, queueAt}
+use Rattle.calls.specs.declared.Sizes.{Sizes}
+use Rattle.calls.specs.Views.{sizesOf}
+use Rattle.sizes.specs.View.{queueAt}
+use Rattle.model.proofs.HeldKept.{NextFits, KeptWithin}
 use Rattle.jitter_buffer.specs.declared.JitterBuffer.{JitterBuffer}
 use Rattle.jitter_buffer.specs.declared.Popped.{Popped}
 use Rattle.jitter_buffer.specs.declared.NextSequence.{NextSequence}
 use Rattle.jitter_buffer.specs.declared.NextSequence.the-variants.{NotStarted, Next}
 use Rattle.jitter_buffer.specs.View.{nextOf, viewOf}
 use Rattle.jitter_buffer.specs.Fields.{playedFields, silencePopped}
-use Rattle.jitter_buffer.specs.Promises.{Lent, Ready, StaysHeld, FillCounts, CanFill, CanHandOut, HandedOut, PlayedAs, PopDone, NextFits}
+use Rattle.jitter_buffer.specs.Promises.{Lent, Ready, FillCounts, CanFill, CanHandOut, HandedOut, PlayedAs}
 use Rattle.jitter_buffer.proofs.Places.{packets-length}
 use Rattle.jitter_buffer.proofs.FillView.{queue-length}
 use Rattle.jitter_buffer.proofs.Turns.{queue-below}
-use Rattle.jitter_buffer.proofs.HeldKept.{WordsFit, KeptWithin, view-kept, stays-held}
+use Rattle.jitter_buffer.proofs.HeldKept.{WordsFit, view-kept}
 use Rattle.jitter_buffer.proofs.PlayView.{handed-view, handed-samples, handed-taken, handed-short}
 
 -- ---- what is dropped
@@ -85,7 +87,7 @@ module _ (z : Sizes) (j : JitterBuffer) (fs : List Float) (us : List ℕ) (p : C
   can-hand-out n few =
       record {
         allowed = p .allowed;
-        fits = lent .floats;
+        fits = omega (arith, lent .floats);
         queue = after-queue;
         inQueue = drop-in-queue (sizesOf z) (b .«playout_len»);
         filled = omega (arith, after-filled, p .counts .filled);
@@ -109,7 +111,7 @@ module _ (z : Sizes) (j : JitterBuffer) (fs : List Float) (us : List ℕ) (p : C
 
 module _ (z : Sizes) (j : JitterBuffer) (fs : List Float) (us : List ℕ) (p : Ready z j fs us) (next : NextFits (nextOf (j .«next_sequence»))) (words : WordsFit us) where
   ready-kept : KeptWithin (sizesOf z) (mostCalls * mostCalls) (viewOf z j fs us)
-  ready-kept = view-kept z j fs us next words (p .lent) (mostCalls * mostCalls) (p .held)
+  ready-kept = view-kept z j fs us next words (omega (arith, p .lent .floats)) (mostCalls * mostCalls) (p .held)
 
   pub ready-fill : CanFill z j fs us
   ready-fill =
@@ -126,33 +128,19 @@ module _ (z : Sizes) (j : JitterBuffer) (fs : List Float) (us : List ℕ) (p : R
         };
       }
 
-  pub play-held : (n : ℕ) (r : Popped) (fs′ : List Float) (us′ : List ℕ) → n ≤ 65535 → viewOf z (r .buffer) fs′ us′ ≡ play f0 (sizesOf z) n (viewOf z j fs us) .after
-      → StaysHeld z (viewOf z j fs us) (viewOf z (r .buffer) fs′ us′)
-  play-held n r fs′ us′ few e =
-      let a = allowed (sizesOf z) (p .allowed) in
-      rw e (stays-held z j fs us next words (p .lent) (play f0 (sizesOf z) n (viewOf z j fs us) .after) (70000 + n)
-      (play-keeps f0 (sizesOf z) n (viewOf z j fs us) a (ready-kept .kept))
-      (play-moves f0 (sizesOf z) n (viewOf z j fs us) a (ready-kept .kept) .grown)
-      (omega arith))
-
-  pub pop-played : (s : ℕ) → j .«next_sequence» ≡ Next s → (out : List Float) (r : Popped) (fs′ : List Float) (us′ : List ℕ) (out′ : List Float) → length out ≤ 65535
-      → PlayedAs z (playFilled f0 (sizesOf z) (length out) (fill f0 (sizesOf z) (viewOf z j fs us))) r fs′ us′ out′
-      → PopDone z j fs us out r fs′ us′ out′
+module _ (z : Sizes) (j : JitterBuffer) (fs : List Float) (us : List ℕ) where
+  pub pop-played : (s : ℕ) → j .«next_sequence» ≡ Next s → (n : ℕ) (r : Popped) (fs′ : List Float) (us′ : List ℕ) (out′ : List Float)
+      → PlayedAs z (playFilled f0 (sizesOf z) n (fill f0 (sizesOf z) (viewOf z j fs us))) r fs′ us′ out′
+      → PlayedAs z (play f0 (sizesOf z) n (viewOf z j fs us)) r fs′ us′ out′
   unfolding play isStarted
-  pop-played s e out r fs′ us′ out′ few h =
-      let same : play f0 (sizesOf z) (length out) (viewOf z j fs us) ≡ playFilled f0 (sizesOf z) (length out) (fill f0 (sizesOf z) (viewOf z j fs us)) = rw e in
-      record {
-        played = rw same h;
-        held = play-held (length out) r fs′ us′ few (rw same (h .view));
-      }
+  pop-played s e n r fs′ us′ out′ h =
+      let same : play f0 (sizesOf z) n (viewOf z j fs us) ≡ playFilled f0 (sizesOf z) n (fill f0 (sizesOf z) (viewOf z j fs us)) = rw e in
+      rw same h
 
-  pub pop-silent : j .«next_sequence» ≡ NotStarted → (out : List Float) (r : Popped) (out′ : List Float) → length out ≤ 65535
-      → r ≡ silencePopped (length out) j → out′ ≡ replicate (length out) f0 → PopDone z j fs us out r fs us out′
+  pub pop-silent : j .«next_sequence» ≡ NotStarted → (n : ℕ) (r : Popped) (out′ : List Float)
+      → r ≡ silencePopped n j → out′ ≡ replicate n f0 → PlayedAs z (play f0 (sizesOf z) n (viewOf z j fs us)) r fs us out′
   unfolding play isStarted playFillers counting countShort
-  pop-silent e out r out′ few h o =
-      let same : play f0 (sizesOf z) (length out) (viewOf z j fs us) ≡ playFillers f0 (length out) (viewOf z j fs us) = rw e in
-      let view : viewOf z (r .buffer) fs us ≡ playFillers f0 (length out) (viewOf z j fs us) .after = rw h in
-      record {
-        played = rw same (record { view = view; samples = o; took = rw h; drops = rw h; lacks = rw h });
-        held = play-held (length out) r fs us few (rw same view);
-      }
+  pop-silent e n r out′ h o =
+      let same : play f0 (sizesOf z) n (viewOf z j fs us) ≡ playFillers f0 n (viewOf z j fs us) = rw e in
+      let view : viewOf z (r .buffer) fs us ≡ playFillers f0 n (viewOf z j fs us) .after = rw h in
+      rw same (record { view = view; samples = o; took = rw h; drops = rw h; lacks = rw h })

@@ -10,10 +10,11 @@ use lib.Ieee.{Float}
 use borrow.Author.Tests.{ltb-true, eqb-true}
 use Rattle.model.specs.Bytes.{part, placed}
 use Rattle.model.specs.Floats.{f0}
-use Rattle.model.specs.JitterBuffer.{moved, concealed, stopped, does, act}
+use Rattle.model.specs.JitterBuffer.{moved, concealed, stopped, stepDue, afterStep}
 use Rattle.model.proofs.BoolLaws.{by-test, clash}
-use Rattle.sizes.specs.declared.Sizes.{Sizes}
-use Rattle.sizes.specs.View.{sizesOf, queueAt}
+use Rattle.calls.specs.declared.Sizes.{Sizes}
+use Rattle.calls.specs.Views.{sizesOf}
+use Rattle.sizes.specs.View.{queueAt}
 use Rattle.jitter_buffer.specs.declared.JitterBuffer.{JitterBuffer}
 use Rattle.jitter_buffer.specs.declared.NextSequence.{NextSequence}
 use Rattle.jitter_buffer.specs.declared.NextSequence.the-variants.{NotStarted, Next}
@@ -73,7 +74,7 @@ queue-below z fs us n lent h = omega (arith, lent .floats, length-take n (drop (
 -- ---- the turns
 
 module _ (z : Sizes) (j : JitterBuffer) (fs : List Float) (us : List ℕ) (taken : ℕ) (p : Filling z j fs us taken) where
-  turn-does : stepOf (fillStepOf (z .target) j us taken) ≡ does (sizesOf z) (viewFrom taken z j fs us)
+  turn-does : stepOf (fillStepOf (z .target) j us taken) ≡ stepDue (sizesOf z) (viewFrom taken z j fs us)
   turn-does = step-does z j fs us taken (omega (arith, p .lent .floats, queue-below z fs us (j .«playout_len») (p .lent) (p .loose .queue))) (p .loose)
 
   pub turn-stopped : fillStepOf (z .target) j us taken ≡ Stopped → TurnTaken z j fs us taken fs Done
@@ -83,7 +84,7 @@ module _ (z : Sizes) (j : JitterBuffer) (fs : List Float) (us : List ℕ) (taken
       → TurnTaken z j fs us taken (placed (queueAt (sizesOf z) + j .«playout_len») (part (taken * z .packet) (z .packet) fs) fs) (More (movedFields (z .packet) s j) (taken + 1))
   turn-moved s e =
       let f = step-moved z j us taken s e in
-      let d : does (sizesOf z) (viewFrom taken z j fs us) ≡ moved s = sym turn-does ∙ ap stepOf e in (
+      let d : stepDue (sizesOf z) (viewFrom taken z j fs us) ≡ moved s = sym turn-does ∙ ap stepOf e in (
         rw d (moved-view z j fs us taken (p .lent) (p .waiting) (f .below) s (f .waits) (f .front)),
         (λ n. let m : moved s ≡ stopped = rw d at n in clash (cc)),
         refl,
@@ -94,7 +95,7 @@ module _ (z : Sizes) (j : JitterBuffer) (fs : List Float) (us : List ℕ) (taken
       → TurnTaken z j fs us taken (placed (queueAt (sizesOf z) + j .«playout_len») (replicate (z .packet) f0) fs) (More (concealedFields (z .packet) s j) taken)
   turn-concealed s e few =
       let f = step-concealed z j us taken s e in
-      let d : does (sizesOf z) (viewFrom taken z j fs us) ≡ concealed s = sym turn-does ∙ ap stepOf e in (
+      let d : stepDue (sizesOf z) (viewFrom taken z j fs us) ≡ concealed s = sym turn-does ∙ ap stepOf e in (
         rw d (concealed-view z j fs us taken (p .lent) (p .waiting) (f .below) s (p .place) few),
         (λ n. let m : concealed s ≡ stopped = rw d at n in clash (cc)),
         refl,
@@ -106,7 +107,7 @@ module _ (z : Sizes) (j : JitterBuffer) (fs : List Float) (us : List ℕ) (taken
       (More (resyncedFields (getD us taken 0) (concealedFields (z .packet) s j)) taken)
   turn-resynced s e many =
       let f = step-concealed z j us taken s e in
-      let d : does (sizesOf z) (viewFrom taken z j fs us) ≡ concealed s = sym turn-does ∙ ap stepOf e in (
+      let d : stepDue (sizesOf z) (viewFrom taken z j fs us) ≡ concealed s = sym turn-does ∙ ap stepOf e in (
         rw d (resynced-view z j fs us taken (p .lent) (p .waiting) (f .below) s (f .waits) many),
         (λ n. let m : concealed s ≡ stopped = rw d at n in clash (cc)),
         refl,

@@ -5,39 +5,41 @@ use mathlib.Core.Bool.{Bool, true, false, _&&_}
 use mathlib.Core.Option.{Option, none, some}
 use mathlib.Core.List.{List}
 use lib.ListN.{length, getD, replicate}
-use lib.Dec.{leb}
+use lib.Dec.{eqb}
 use lib.Ieee.{Float}
 use Rattle.model.specs.Bytes.{part, placed}
 use Rattle.model.specs.Floats.{f0}
 use Rattle.areas.specs.Parts.{moved}
 use Rattle.model.specs.Sizes.{sizesAllowed, mostWaiting}
-use Rattle.model.specs.JitterBuffer.{Buffer, Played, PlayResult, buffered, reset, does, act, stopped, fill, playFilled, play, isLate, push}
+use Rattle.model.specs.JitterBuffer.{PlayResult, buffered, stepDue, afterStep, stopped, fill, playFilled, play, isLate, push}
 use Rattle.model.proofs.FillStep.{Loose}
-use Rattle.model.specs.Receiver.{mostCalls, bufferHeld}
-use Rattle.sizes.specs.declared.Sizes.{Sizes}
-use Rattle.sizes.specs.View.{sizesOf, queueAt}
+use Rattle.model.proofs.HeldKept.{NextFits}
+use Rattle.model.specs.Questions.{mostCalls, bufferHeld}
+use Rattle.calls.specs.declared.Sizes.{Sizes}
+use Rattle.calls.specs.Views.{sizesOf}
+use Rattle.sizes.specs.View.{queueAt}
 use Rattle.jitter_buffer.specs.declared.JitterBuffer.{JitterBuffer}
 use Rattle.jitter_buffer.specs.declared.Popped.{Popped}
 use Rattle.jitter_buffer.specs.declared.Turn.{Turn}
 use Rattle.jitter_buffer.specs.declared.Turn.the-variants.{More, Done}
 use Rattle.jitter_buffer.specs.View.{nextOf, packetOf, viewFrom, viewOf}
-use Rattle.jitter_buffer.specs.Fields.{playedFields}
+use Rattle.jitter_buffer.specs.Fields.{playedFields, startAsked}
 
--- the two lent parts are long enough
+-- exactly the two parts are lent: no place of another part
 pub record Lent (z : Sizes) (fs : List Float) (us : List ℕ) : Type 0 where
-  pub floats : queueAt (sizesOf z) + (z .target + z .packet) ≤ length fs
-  pub words : mostWaiting (sizesOf z) ≤ length us
+  pub floats : queueAt (sizesOf z) + (z .target + z .packet) ≡ length fs
+  pub words : mostWaiting (sizesOf z) ≡ length us
 
--- allowed sizes, a state that a receiver could hold, and parts that are long enough
+-- both lent parts are as long as they were
+pub record AsLong (fs : List Float) (us : List ℕ) (fs′ : List Float) (us′ : List ℕ) : Type 0 where
+  pub floats : length fs′ ≡ length fs
+  pub words : length us′ ≡ length us
+
+-- allowed sizes, a state that a receiver could hold, and exactly its parts
 pub record Ready (z : Sizes) (j : JitterBuffer) (fs : List Float) (us : List ℕ) : Type 0 where
   pub allowed : sizesAllowed (sizesOf z) ≡ true
   pub held : bufferHeld (sizesOf z) (mostCalls * mostCalls) (viewOf z j fs us) ≡ true
   pub lent : Lent z fs us
-
--- a state that could be held stays one that could be held, with one accepted call more
-abbrev pub StaysHeld : Sizes → Buffer Float → Buffer Float → Type 0
-StaysHeld z before after =
-    (limit : ℕ) → bufferHeld (sizesOf z) limit before ≡ true → bufferHeld (sizesOf z) (limit + mostCalls) after ≡ true
 
 -- ---- amounts
 
@@ -51,12 +53,6 @@ pub record Sized (z : Sizes) (j : JitterBuffer) : Type 0 where
 pub record BufferedAmount (z : Sizes) (j : JitterBuffer) (r : ℕ) : Type 0 where
   pub amount : r ≡ j .«playout_len» + z .packet * j .«pending_len»
   pub model : (fs : List Float) (us : List ℕ) → Lent z fs us → r ≡ buffered (sizesOf z) (viewOf z j fs us)
-
--- ---- reset
-
-pub record ResetDone (z : Sizes) (j : JitterBuffer) (fs : List Float) (us : List ℕ) (r : JitterBuffer) : Type 0 where
-  pub view : viewOf z r fs us ≡ reset (viewOf z j fs us)
-  pub held : sizesAllowed (sizesOf z) ≡ true → StaysHeld z (viewOf z j fs us) (viewOf z r fs us)
 
 -- ---- fill
 
@@ -85,11 +81,11 @@ pub record Filling (z : Sizes) (j : JitterBuffer) (fs : List Float) (us : List �
 -- what one turn of a fill leaves: the step that it took, or a fill that stopped
 abbrev pub TurnTaken : Sizes → JitterBuffer → List Float → List ℕ → ℕ → List Float → Turn → Type 0
 TurnTaken z j fs us taken fs′ (More b t) =
-    (viewFrom t z b fs′ us ≡ act f0 (sizesOf z) (does (sizesOf z) (viewFrom taken z j fs us)) (viewFrom taken z j fs us))
-    × (does (sizesOf z) (viewFrom taken z j fs us) ≡ stopped → ⊥)
+    (viewFrom t z b fs′ us ≡ afterStep f0 (sizesOf z) (stepDue (sizesOf z) (viewFrom taken z j fs us)) (viewFrom taken z j fs us))
+    × (stepDue (sizesOf z) (viewFrom taken z j fs us) ≡ stopped → ⊥)
     × (b .«pending_len» ≡ j .«pending_len»)
     × (t ≤ j .«pending_len»)
-TurnTaken z j fs us taken fs′ Done = (does (sizesOf z) (viewFrom taken z j fs us) ≡ stopped) × (fs′ ≡ fs)
+TurnTaken z j fs us taken fs′ Done = (stepDue (sizesOf z) (viewFrom taken z j fs us) ≡ stopped) × (fs′ ≡ fs)
 
 -- each counter of a fill stays in range
 pub record FillCounts (j : JitterBuffer) : Type 0 where
@@ -148,7 +144,7 @@ pub record PlayedAs (z : Sizes) (model : PlayResult Float) (r : Popped) (fs′ :
 -- a play: the buffer and the answer are the model's
 pub record PopDone (z : Sizes) (j : JitterBuffer) (fs : List Float) (us : List ℕ) (out : List Float) (r : Popped) (fs′ : List Float) (us′ : List ℕ) (out′ : List Float) : Type 0 where
   pub played : PlayedAs z (play f0 (sizesOf z) (length out) (viewOf z j fs us)) r fs′ us′ out′
-  pub held : StaysHeld z (viewOf z j fs us) (viewOf z (r .buffer) fs′ us′)
+  pub lent : AsLong fs us fs′ us′
 
 -- ---- push
 
@@ -165,11 +161,6 @@ pub record CanStore (z : Sizes) (j : JitterBuffer) (fs : List Float) (us payload
   pub size : length payload / 2 ≡ z .packet
   pub inserted : j .«packets_inserted» + 1 < 2 ^ 64
 
--- a next sequence has 32 bits
-abbrev pub NextFits : Option ℕ → Type 0
-NextFits none = Unit {0}
-NextFits (some n) = n < 2 ^ 32
-
 -- what is told of a sequence's lateness, and of next itself
 pub record Lateness (j : JitterBuffer) (s : ℕ) (r : Bool) : Type 0 where
   pub late : r ≡ isLate s (nextOf (j .«next_sequence»))
@@ -184,12 +175,21 @@ pub record CanSettle (z : Sizes) (j : JitterBuffer) (fs : List Float) (us : List
 -- a push: the buffer is the model's
 pub record PushDone (z : Sizes) (j : JitterBuffer) (fs : List Float) (us : List ℕ) (s : ℕ) (payload : List ℕ) (r : JitterBuffer) (fs′ : List Float) (us′ : List ℕ) : Type 0 where
   pub view : viewOf z r fs′ us′ ≡ push f0 (sizesOf z) (packetOf s payload) (viewOf z j fs us)
-  pub held : StaysHeld z (viewOf z j fs us) (viewOf z r fs′ us′)
+  pub lent : AsLong fs us fs′ us′
 
 -- ---- question 3
 
--- where the f32 part is long enough, the answer is the model's for allowed sizes and a long enough u32 part, whatever the samples are, and else no
+-- where the f32 part is long enough, the answer is the model's for allowed sizes and exactly the u32 part, whatever the samples are, and else no
 abbrev pub HeldAsked : Sizes → JitterBuffer → List Float → List ℕ → ℕ → Bool → Type 0
 HeldAsked z j fs us calls r =
     queueAt (sizesOf z) + (z .target + z .packet) ≤ length fs
-    → r ≡ sizesAllowed (sizesOf z) && (leb (mostWaiting (sizesOf z)) (length us) && bufferHeld (sizesOf z) (calls * mostCalls) (viewOf z j fs us))
+    → r ≡ sizesAllowed (sizesOf z) && (eqb (mostWaiting (sizesOf z)) (length us) && bufferHeld (sizesOf z) (calls * mostCalls) (viewOf z j fs us))
+
+-- the test of next, and what is known of next itself
+pub record StartTold (z : Sizes) (j : JitterBuffer) (us : List ℕ) (r : Bool) : Type 0 where
+  pub asked : r ≡ startAsked z j us
+  pub next : NextFits (nextOf (j .«next_sequence»))
+
+pub record HeldTold (z : Sizes) (j : JitterBuffer) (us : List ℕ) (calls : ℕ) (r : Bool) : Type 0 where
+  pub asked : (fs : List Float) → HeldAsked z j fs us calls r
+  pub next : r ≡ true → NextFits (nextOf (j .«next_sequence»))

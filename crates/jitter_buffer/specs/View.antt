@@ -8,8 +8,9 @@ use Rattle.model.specs.Bytes.{part}
 use Rattle.model.specs.Samples.{samplesOf}
 use Rattle.model.specs.JitterBuffer as Model
 use Rattle.model.specs.JitterBuffer.{Counters, Packet, Buffer, Step}
-use Rattle.sizes.specs.declared.Sizes.{Sizes}
-use Rattle.sizes.specs.View.{sizesOf, queueAt}
+use Rattle.calls.specs.declared.Sizes.{Sizes}
+use Rattle.calls.specs.Views.{sizesOf}
+use Rattle.sizes.specs.View.{queueAt}
 use Rattle.jitter_buffer.specs.declared.JitterBuffer.{JitterBuffer}
 use Rattle.jitter_buffer.specs.declared.NextSequence.{NextSequence}
 use Rattle.jitter_buffer.specs.declared.NextSequence.the-variants.{NotStarted, Next}

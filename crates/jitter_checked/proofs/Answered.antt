@@ -1,4 +1,4 @@
--- The answer to question 3 and the f32 part's length are all that a call asks, and where the answer is yes it may act. Assumes nothing.
+-- The answer to question 3 and the f32 part's exact length are all that a call asks, and where the answer is yes it may act. Assumes nothing.
 use mathlib.Core.Path.{_≡_, refl, sym, _∙_}
 use mathlib.Core.Bool.{Bool, true, false, _&&_}
 use mathlib.Core.List.{List}
@@ -6,14 +6,15 @@ use Prim.Native.Nat.{ℕ, _+_, _-_, _*_, _≤_}
 use native.Mathlib.Nat.{sub-zero}
 use native.Mathlib.Omega.{arith}
 use lib.ListN.{length, replicate, length-replicate}
-use lib.Dec.{leb, ltb}
+use lib.Dec.{leb, ltb, eqb}
 use lib.Ieee.{Float, nan}
-use borrow.Author.Tests.{leb-true, ltb-true}
+use borrow.Author.Tests.{leb-true, ltb-true, eqb-true}
 use Rattle.model.specs.Sizes.{sizesAllowed, mostWaiting}
-use Rattle.model.specs.Receiver.{mostCalls, bufferHeld, strictlyRising, sequences}
+use Rattle.model.specs.Questions.{mostCalls, bufferHeld, strictlyRising, sequences}
 use Rattle.model.proofs.BoolLaws.{first-of-both, second-of-both}
-use Rattle.sizes.specs.declared.Sizes.{Sizes}
-use Rattle.sizes.specs.View.{sizesOf, queueAt}
+use Rattle.calls.specs.declared.Sizes.{Sizes}
+use Rattle.calls.specs.Views.{sizesOf}
+use Rattle.sizes.specs.View.{queueAt}
 use Rattle.jitter_buffer.specs.declared.JitterBuffer.{JitterBuffer}
 use Rattle.jitter_buffer.specs.View.{viewOf}
 use Rattle.jitter_buffer.specs.Promises.{Lent, Ready, Sized, HeldAsked}
@@ -34,19 +35,19 @@ and-true : (a : Bool) → a ≡ a && true
 and-true true = refl
 and-true false = refl
 
-abbrev longEnough : Sizes → List Float → Bool
-longEnough z fs = leb (queueAt (sizesOf z) + (z .target + z .packet)) (length fs)
+abbrev asLong : Sizes → List Float → Bool
+asLong z fs = eqb (queueAt (sizesOf z) + (z .target + z .packet)) (length fs)
 
 module _ (z : Sizes) (j : JitterBuffer) (us : List ℕ) (r : Bool) (asked : (fs : List Float) → HeldAsked z j fs us mostCalls r) where
-  both-asked : (fs : List Float) → longEnough z fs && r ≡ bufferAsked z j fs us
+  both-asked : (fs : List Float) → asLong z fs && r ≡ bufferAsked z j fs us
   unfolding bufferAsked
-  both-asked fs = only-where (longEnough z fs) _ r (λ long. asked fs (leb-true (queueAt (sizesOf z) + (z .target + z .packet)) (length fs) long))
+  both-asked fs = only-where (asLong z fs) _ r (λ long. asked fs (omega (arith, eqb-true (queueAt (sizesOf z) + (z .target + z .packet)) (length fs) long)))
 
   pub not-held : r ≡ false → (fs : List Float) → false ≡ bufferAsked z j fs us
-  not-held refused fs = and-false (longEnough z fs) ∙ (rw refused at (both-asked fs))
+  not-held refused fs = and-false (asLong z fs) ∙ (rw refused at (both-asked fs))
 
-  pub length-left : r ≡ true → (fs : List Float) → leb (queueAt (sizesOf z) + (z .target + z .packet)) (length fs) ≡ bufferAsked z j fs us
-  length-left held fs = and-true (longEnough z fs) ∙ (rw held at (both-asked fs))
+  pub length-left : r ≡ true → (fs : List Float) → eqb (queueAt (sizesOf z) + (z .target + z .packet)) (length fs) ≡ bufferAsked z j fs us
+  length-left held fs = and-true (asLong z fs) ∙ (rw held at (both-asked fs))
 
   -- the sizes are allowed whatever the f32 part is
   pub asked-allowed : r ≡ true → sizesAllowed (sizesOf z) ≡ true
@@ -61,17 +62,17 @@ module _ (z : Sizes) (j : JitterBuffer) (fs : List Float) (us : List ℕ) where
   unfolding bufferAsked
   asked-ready asked held =
       let answer = sym asked ∙ held in
-      let long = longEnough z fs in
+      let long = asLong z fs in
       let allowed = sizesAllowed (sizesOf z) in
-      let words = leb (mostWaiting (sizesOf z)) (length us) in
+      let words = eqb (mostWaiting (sizesOf z)) (length us) in
       let rest = second-of-both long _ answer in
       let last = second-of-both allowed _ rest in
       record {
         allowed = first-of-both allowed _ rest;
         held = second-of-both words _ last;
         lent = record {
-          floats = leb-true (queueAt (sizesOf z) + (z .target + z .packet)) (length fs) (first-of-both long _ answer);
-          words = leb-true (mostWaiting (sizesOf z)) (length us) (first-of-both words _ last);
+          floats = eqb-true (queueAt (sizesOf z) + (z .target + z .packet)) (length fs) (first-of-both long _ answer);
+          words = eqb-true (mostWaiting (sizesOf z)) (length us) (first-of-both words _ last);
         };
       }
 

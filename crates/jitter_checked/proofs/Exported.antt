@@ -10,10 +10,11 @@ use lib.Dec.{leb}
 use lib.Ieee.{Float}
 use borrow.Author.Tests.{le-leb, lt-leb}
 use Rattle.model.proofs.BoolLaws.{clash}
-use Rattle.sizes.specs.declared.Sizes.{Sizes}
+use Rattle.model.specs.JitterBuffer.{reset}
+use Rattle.calls.specs.declared.Sizes.{Sizes}
 use Rattle.jitter_buffer.specs.declared.JitterBuffer.{JitterBuffer}
+use Rattle.jitter_buffer.specs.View.{viewOf}
 use Rattle.jitter_buffer.specs.declared.Popped.{Popped}
-use Rattle.jitter_buffer.specs.Promises.{ResetDone}
 use Rattle.jitter_checked.specs.declared.Pushed.{Pushed}
 use Rattle.jitter_checked.specs.declared.Pushed as pushed
 use Rattle.jitter_checked.specs.declared.Played.{Played}
@@ -119,9 +120,9 @@ module _ (sizes state : List ℕ) (fs : List Float) (us : List ℕ) (out : List 
 pub reset-no : (state : List ℕ) → length state < 14 → ResetExported state state false
 reset-no state h = record { acts = rw (lt-leb 14 (length state) h); refused = λ e. refl; left = λ e. clash (cc) }
 
-pub reset-left : (state : List ℕ) {state′ : List ℕ} {j b : JitterBuffer} → 14 ≤ length state → j ≡ bufferAt state
-    → ((z : Sizes) (fs : List Float) (us : List ℕ) → ResetDone z j fs us b) → state′ ≡ sets state 0 (bufferWords b) → ResetExported state state′ true
-reset-left state {b = b} h ej done w =
+pub reset-left : (state : List ℕ) {state′ : List ℕ} {j : JitterBuffer} (b : JitterBuffer) → 14 ≤ length state → j ≡ bufferAt state
+    → ((z : Sizes) (fs : List Float) (us : List ℕ) → viewOf z b fs us ≡ reset (viewOf z j fs us)) → state′ ≡ sets state 0 (bufferWords b) → ResetExported state state′ true
+reset-left state b h ej done w =
     record {
       acts = rw (le-leb 14 (length state) h);
       refused = λ e. clash (cc);

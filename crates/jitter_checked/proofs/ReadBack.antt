@@ -11,7 +11,7 @@ use Rattle.jitter_buffer.specs.declared.NextSequence.{NextSequence}
 use Rattle.jitter_buffer.specs.declared.NextSequence.the-variants.{NotStarted, Next}
 use Rattle.jitter_buffer.specs.View.{nextOf}
 use Rattle.jitter_buffer.specs.Fields.{nextSet}
-use Rattle.jitter_buffer.specs.Promises.{NextFits}
+use Rattle.model.proofs.HeldKept.{NextFits}
 use Rattle.jitter_checked.specs.Words.{nextAt, bufferAt, startedWord, nextWord, bufferWords}
 
 next-read-back : (n : NextSequence) → NextFits (nextOf n) → nextAt (startedWord n) (nextWord n) ≡ n

@@ -7,13 +7,13 @@ use lib.ListN.{length}
 use lib.Seq.{sets}
 use lib.Dec.{leb}
 use lib.Ieee.{Float}
-use Rattle.model.specs.JitterBuffer.{buffered}
-use Rattle.sizes.specs.declared.Sizes.{Sizes}
-use Rattle.sizes.specs.View.{sizesOf}
+use Rattle.model.specs.JitterBuffer.{buffered, reset}
+use Rattle.calls.specs.declared.Sizes.{Sizes}
+use Rattle.calls.specs.Views.{sizesOf}
 use Rattle.jitter_buffer.specs.declared.JitterBuffer.{JitterBuffer}
 use Rattle.jitter_buffer.specs.declared.Popped.{Popped}
 use Rattle.jitter_buffer.specs.View.{viewOf}
-use Rattle.jitter_buffer.specs.Promises.{PushDone, PopDone, ResetDone}
+use Rattle.jitter_buffer.specs.Promises.{PushDone, PopDone}
 use Rattle.jitter_checked.specs.declared.Pushed.{Pushed}
 use Rattle.jitter_checked.specs.declared.Pushed as pushed
 use Rattle.jitter_checked.specs.declared.Played.{Played}
@@ -92,7 +92,7 @@ pub record PlayExported (sizes state : List ℕ) (fs : List Float) (us : List �
 pub record ResetLeft (state state′ : List ℕ) : Type 0 where
   pub buffer : JitterBuffer
   pub words : state′ ≡ sets state 0 (bufferWords buffer)
-  pub done : (z : Sizes) (fs : List Float) (us : List ℕ) → ResetDone z (bufferAt state) fs us buffer
+  pub done : (z : Sizes) (fs : List Float) (us : List ℕ) → viewOf z buffer fs us ≡ reset (viewOf z (bufferAt state) fs us)
 
 pub record ResetExported (state state′ : List ℕ) (r : Bool) : Type 0 where
   pub acts : r ≡ leb 14 (length state)

@@ -4,7 +4,7 @@ use mathlib.Core.Bool.{cond}
 use mathlib.Core.List.{List, [], _∷_}
 use lib.ListN.{getD}
 use lib.Dec.{eqb}
-use Rattle.sizes.specs.declared.Sizes.{Sizes}
+use Rattle.calls.specs.declared.Sizes.{Sizes}
 use Rattle.jitter_buffer.specs.declared.JitterBuffer.{JitterBuffer}
 use Rattle.jitter_buffer.specs.declared.NextSequence.{NextSequence}
 use Rattle.jitter_buffer.specs.declared.NextSequence.the-variants.{NotStarted, Next}

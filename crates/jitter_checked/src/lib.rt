@@ -6,9 +6,9 @@ pub mod words;
 ghost use mathlib.Core.Path.{_≡_};
 ghost use Rattle.jitter_checked.specs.Asked.{bufferAsked};
 ghost use Rattle.jitter_checked.specs.Promises.{PushChecked, PlayChecked, AmountChecked};
+use calls::Sizes;
 use jitter_buffer::JitterBuffer;
 use jitter_buffer::Popped;
-use sizes::Sizes;
 
 pub enum Pushed {
     Refused,
@@ -25,7 +25,7 @@ pub enum Amount {
     Samples(usize),
 }
 
-// Whether a push and a play may act.
+// Whether a push and a play may act: on exactly the buffer's parts.
 pub fn ready(j: JitterBuffer, z: Sizes, fs: &[f32], us: &[u32]) -> bool
     ensures { λ r. ⌜ r ≡ bufferAsked z j (now (fs .entry)) (now (us .entry)) ⌝ }
 {
@@ -33,7 +33,7 @@ pub fn ready(j: JitterBuffer, z: Sizes, fs: &[f32], us: &[u32]) -> bool
         return false;
     }
     let offsets = sizes::section_offsets(z);
-    offsets.row <= fs.len()
+    offsets.row == fs.len()
 }
 
 pub fn push(

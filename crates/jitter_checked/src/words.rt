@@ -4,9 +4,9 @@ ghost use Prim.Native.Nat.{_≤_};
 ghost use lib.ListN.{length};
 ghost use lib.Seq.{sets};
 ghost use Rattle.jitter_checked.specs.Words.{sizesAt, nextAt, bufferAt, startedWord, nextWord, amountWords, counterWords, bufferWords};
+use calls::Sizes;
 use jitter_buffer::JitterBuffer;
 use jitter_buffer::NextSequence;
-use sizes::Sizes;
 
 // Packet, target, max, bins, width and height.
 pub fn sizes_of(w: &[usize]) -> Sizes

@@ -1,5 +1,5 @@
 // Calls that must be refused, beside ones that must not: sizes at which the original panics and sizes that
-// are too large, parts one place too short, a run that no buffer has, a play of too many samples.
+// are too large, parts one place too short or too long, a run that no buffer has, a play of too many samples.
 use crate::compare::Difference;
 use crate::session::sizes;
 use crate::tally::Ended;
@@ -8,10 +8,10 @@ use crate::tally::tallied;
 use crate::text::behind_empty_line;
 use crate::text::decimal;
 use crate::text::name;
+use calls::Sizes;
 use jitter_buffer::JitterBuffer;
 use jitter_checked::Played;
 use jitter_checked::Pushed;
-use sizes::Sizes;
 
 // 1 where a push of four samples is accepted, else 0.
 fn pushed(z: Sizes, j: JitterBuffer, fs: &mut [f32], us: &mut [u32]) -> u64 {
@@ -138,7 +138,11 @@ pub fn all(t: Tally) -> Tally {
 
 one float too few 4 8 16 27 4 0 2 0
 
+one float too many 4 8 16 29 4 0 2 0
+
 one word too few 4 8 16 28 3 0 2 0
+
+one word too many 4 8 16 28 5 0 2 0
 
 packet of no samples 0 8 16 512 64 0 2 0
 

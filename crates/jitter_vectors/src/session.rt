@@ -13,10 +13,10 @@ use crate::text::call_at;
 use crate::text::decimal;
 use crate::text::ends_at;
 use crate::text::name;
+use calls::Sizes;
 use jitter_buffer::JitterBuffer;
 use jitter_checked::Played;
 use jitter_checked::Pushed;
-use sizes::Sizes;
 use std::num::wrapping_add_u64;
 use std::num::wrapping_add_usize;
 
@@ -222,6 +222,22 @@ fn steps(z: Sizes, fs: &mut [f32], us: &mut [u32], text: &[u8], from: usize) -> 
     Ended::Differs(n, not_accepted())
 }
 
+// The calls on exactly the buffer's parts. No session has larger ones than there are.
+fn on_parts(z: Sizes, fs: &mut [f32], us: &mut [u32], text: &[u8], at: usize) -> Ended {
+    if !sizes::allowed(z) {
+        return Ended::Differs(0, not_accepted());
+    }
+    let offsets = sizes::section_offsets(z);
+    let floats = offsets.row;
+    let words = sizes::most_waiting(z);
+    if floats <= fs.len() {
+        if words <= us.len() {
+            return steps(z, &mut fs[0..floats], &mut us[0..words], text, at);
+        }
+    }
+    Ended::Differs(0, not_accepted())
+}
+
 // One session: its name, its sizes, its calls, whatever the free places hold.
 fn session(t: Tally, text: &[u8], at: usize) -> Tally {
     let packet = decimal(text, at);
@@ -237,7 +253,7 @@ fn session(t: Tally, text: &[u8], at: usize) -> Tally {
     name(text, at);
     tallied(
         t,
-        steps(z, &mut fs, &mut us, text, wrapping_add_usize(max.at, 1)),
+        on_parts(z, &mut fs, &mut us, text, wrapping_add_usize(max.at, 1)),
     )
 }
 

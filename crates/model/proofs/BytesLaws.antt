@@ -10,8 +10,7 @@ use lib.Seq.{take-all}
 use lib.Arith.{digits-lt, digits-div, mod-mul}
 use lib.Dec.{ltb}
 use borrow.Author.Tests.{ltb-true, lt-ltb}
-use Rattle.model.specs.Receiver.{all}
-use Rattle.model.specs.Bytes.{bigEndian, bigEndianBytes}
+use Rattle.model.specs.Bytes.{all, bigEndian, bigEndianBytes}
 use Rattle.model.specs.Tape.{wordsOf, bytesOf}
 use Rattle.model.proofs.ListLaws.{all-head, all-tail, all-cons, all-append, all-take, all-drop}
 

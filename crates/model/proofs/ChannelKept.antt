@@ -1,18 +1,21 @@
 -- What each call keeps of a channel, and what it moves in its buffer. Assumes nothing.
-use mathlib.Core.Path.{_≡_, refl, sym, _∙_, ap}
-use mathlib.Core.Bool.{Bool, true, false, cond}
-use mathlib.Core.List.{List, []}
+use mathlib.Core.Path.{_≡_, refl}
+use mathlib.Core.Bool.{true}
+use mathlib.Core.List.{List}
 use mathlib.Core.Option.{Option, none, some}
 use Prim.Native.Nat.{ℕ, _+_, _*_, _^_, _≤_, _<_}
 use native.Mathlib.Omega.{arith}
-use lib.ListN.{length, length-replicate}
+use lib.ListN.{length-replicate}
 use lib.Ieee.{Float}
 use Rattle.model.specs.Floats.{f0}
 use Rattle.model.specs.Sizes.{Sizes}
-use Rattle.model.specs.JitterBuffer.{Counters, Packet, Buffer, Played, PlayResult, freshBuffer, buffered, reset, push, play}
+use Rattle.model.specs.JitterBuffer.{Packet, Buffer, Played, push}
 use Rattle.model.specs.Row.{Row}
 use Rattle.model.specs.Samples.{holdsSamples, samplesOf}
-use Rattle.model.specs.Receiver.{Estimates, Settings, Channel, ChannelResult, Answer, mostCalls, freshChannel, withBuffer, playChannel, resetChannel, setChannel, audioInto, waterfallInto, chunkResult, totalAllowed, ofPlay}
+use Rattle.model.specs.Receiver.{Estimates, Settings, Channel, freshChannel}
+use Rattle.model.specs.Questions.{mostAdded, totalAllowed}
+use Rattle.model.specs.Step.{ChannelResult, withBuffer, playChannel, resetChannel, setChannel, audioInto, waterfallInto, chunkResult}
+use Rattle.model.specs.Lines.{ofPlay}
 use Rattle.model.proofs.BoolLaws.{cond-keeps}
 use Rattle.model.proofs.SizeLaws.{Allowed}
 use Rattle.model.proofs.BufferKept.{Kept, Moves, fresh-kept, reset-kept}
@@ -27,9 +30,9 @@ pub record ChannelKept (z : Sizes) (c : Channel) : Type 0 where
 -- a call other than reset keeps the channel, and what leaves its buffer is in its answer
 pub record Acts (z : Sizes) (c : Channel) (r : ChannelResult) : Type 0 where
   pub kept : ChannelKept z (r .after)
-  pub moves : Moves z mostCalls (c .buffer) (r .after .buffer) (ofPlay (λ p. p .taken) (r .answer) + ofPlay (λ p. p .dropped) (r .answer)) (ofPlay (λ p. p .short) (r .answer))
+  pub moves : Moves z mostAdded (c .buffer) (r .after .buffer) (ofPlay (λ p. p .taken) (r .answer) + ofPlay (λ p. p .dropped) (r .answer)) (ofPlay (λ p. p .short) (r .answer))
 
-moves-none : (z : Sizes) (b : Buffer Float) → Moves z mostCalls b b 0 0
+moves-none : (z : Sizes) (b : Buffer Float) → Moves z mostAdded b b 0 0
 moves-none z b = omega arith
 
 -- the screen does not look at the buffer
@@ -86,7 +89,7 @@ audio-acts z sequence payload c a fits k =
           (λ e. record { buffer = push-keeps f0 z new (c .buffer) a fits (k .buffer); screen = buffer-screen z _ c (k .screen) })
           (λ e. k);
       moves =
-          cond-keeps (λ (d : Channel). Moves z mostCalls (c .buffer) (d .buffer) 0 0) (holdsSamples payload) (withBuffer (push f0 z new (c .buffer)) c) c
+          cond-keeps (λ (d : Channel). Moves z mostAdded (c .buffer) (d .buffer) 0 0) (holdsSamples payload) (withBuffer (push f0 z new (c .buffer)) c) c
           (λ e. omega arith)
           (λ e. moves-none z (c .buffer));
     }

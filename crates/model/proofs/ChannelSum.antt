@@ -1,21 +1,23 @@
 -- The channel sum: packet × (inserted + concealed) = taken + dropped + queued + packet × waiting, and filled = short total + packet × concealed,
 -- over the plays since the last reset. Each call changes the two sides alike. Assumes nothing.
-use mathlib.Core.Path.{_≡_, refl, sym, _∙_, ap}
-use mathlib.Core.Bool.{Bool, true, false, cond, _&&_, false≢true, true≢false, and-false}
+use mathlib.Core.Path.{_≡_, refl}
+use mathlib.Core.Bool.{true, false, cond, _&&_, false≢true, true≢false, and-false}
 use mathlib.Core.Option.{Option, none, some}
 use mathlib.Core.List.{List, [], _∷_}
-use Prim.Native.Nat.{ℕ, suc, _+_, _*_, _^_, _≤_, _<_}
+use Prim.Native.Nat.{ℕ, _+_, _*_, _≤_}
 use native.Mathlib.Omega.{arith}
-use lib.ListN.{length, drop}
+use lib.ListN.{length}
 use lib.Ieee.{Float}
 use borrow.Author.Tests.{leb-true}
 use Rattle.model.specs.Sizes.{Sizes}
-use Rattle.model.specs.Framing.{headerFields, headerLength, Side, A, B, Stream, audio, waterfall, otherStream}
-use Rattle.model.specs.Samples.{audioPayload}
+use Rattle.model.specs.Framing.{headerFields, Side, A, B, Stream, audio, waterfall, otherStream, streamIn}
 use Rattle.model.specs.JitterBuffer as Jitter
 use Rattle.model.specs.JitterBuffer.{Buffer, Played, buffered}
 use Rattle.model.specs.Clock.{Clock}
-use Rattle.model.specs.Receiver.{Setup, Settings, Call, datagram, play, reset, set, probe, oneWay, depth, transmitDepth, State, Channel, ChannelResult, Lent, Answer, refused, accepted, played, row, StepResult, mostCalls, firstNo, ownQuestions, questions, streamIn, streamAllowed, totalAllowed, channelOf, withBuffer, playChannel, resetChannel, setChannel, audioInto, waterfallInto, onSide, onClock, countHeader, passedOver, dispatch, takeDatagram, accept, decide, step, Event, Run, run, sameSide, ofPlay, isAccepted, tally, tallyFrom, sinceReset, freshChannel, fresh}
+use Rattle.model.specs.Receiver.{Setup, Settings, Call, datagram, play, reset, set, probe, oneWay, depth, transmitDepth, State, Channel, Lent, Answer, refused, channelOf, isAccepted, freshChannel, fresh}
+use Rattle.model.specs.Questions.{mostAdded, firstNo, ownQuestions, questions, streamAllowed}
+use Rattle.model.specs.Step.{ChannelResult, withBuffer, playChannel, resetChannel, setChannel, audioInto, waterfallInto, onSide, onClock, countHeader, dispatch, takeDatagram, changes, oneCallMore, accept, decide, step, run}
+use Rattle.model.specs.Lines.{sameSide, ofPlay, tally, tallyFrom}
 use Rattle.model.proofs.BoolLaws.{by-test, cond-keeps}
 use Rattle.model.specs.WholeList.{All, CallBytes}
 use Rattle.model.proofs.FieldRange.{Bytes, sequence-below}
@@ -24,7 +26,7 @@ use Rattle.model.proofs.BufferKept.{Moves}
 use Rattle.model.proofs.ChannelKept.{ChannelKept, Acts, play-acts, set-acts, audio-acts, waterfall-acts, waterfall-plays-none}
 use Rattle.model.proofs.Held.{StateKept}
 use Rattle.model.proofs.Accepted.{first-yes}
-use Rattle.model.proofs.Reachable.{step-keeps, step-at-most}
+use Rattle.model.proofs.Reachable.{step-keeps}
 
 -- the two sums of a buffer, with taken, dropped and short added up over the plays since its last reset
 pub record Tallied (z : Sizes) (b : Buffer Float) (taken dropped short : ℕ) : Type 0 where
@@ -55,10 +57,10 @@ side-tallied : (side u : Side) (f : Channel → ChannelResult) (s : State) (t d 
     → Acts (s .sizes) (channelOf u s) (f (channelOf u s)) → TalliedOn side s t d h
     → TalliedOn side (onSide u f s .after) (t + takenOf (onSide u f s .answer)) (d + droppedOf (onSide u f s .answer)) (h + shortOf (onSide u f s .answer))
 unfolding onSide
-side-tallied A A f s t d h e a k = moves-tallied (s .sizes) mostCalls _ _ t d h _ _ _ (a .moves) k
+side-tallied A A f s t d h e a k = moves-tallied (s .sizes) mostAdded _ _ t d h _ _ _ (a .moves) k
 side-tallied A B f s t d h e a k = absurd (false≢true e)
 side-tallied B A f s t d h e a k = absurd (false≢true e)
-side-tallied B B f s t d h e a k = moves-tallied (s .sizes) mostCalls _ _ t d h _ _ _ (a .moves) k
+side-tallied B B f s t d h e a k = moves-tallied (s .sizes) mostAdded _ _ t d h _ _ _ (a .moves) k
 
 side-untouched : (side u : Side) (f : Channel → ChannelResult) (s : State) (t d h : ℕ) → sameSide side u ≡ false → TalliedOn side s t d h
     → TalliedOn side (onSide u f s .after) t d h
@@ -109,11 +111,6 @@ unfolding onSide setChannel ofPlay
 set-plays-none A x s g = refl
 set-plays-none B x s g = refl
 
-passed-over-tallied : (side : Side) (s : State) (t d h : ℕ) → TalliedOn side s t d h → TalliedOn side (passedOver s .after) t d h
-unfolding passedOver
-passed-over-tallied A s t d h k = k
-passed-over-tallied B s t d h k = k
-
 dispatch-tallied : (side : Side) (bytes : List ℕ) (stream : Stream) (s : State) (t d h : ℕ) → Bytes bytes → Allowed (s .sizes)
     → streamAllowed (s .sizes) bytes stream ≡ true → ((u : Side) → ChannelKept (s .sizes) (channelOf u s)) → TalliedOn side s t d h
     → TalliedOn side (dispatch (headerFields bytes) bytes stream s .after) t d h
@@ -122,7 +119,7 @@ dispatch-tallied side bytes (audio u) s t d h b a q k m =
     side-no-play side u _ s t d h (audio-plays-none u _ _ _ s) (audio-acts (s .sizes) _ _ (channelOf u s) a (sequence-below bytes b) (k u)) m
 dispatch-tallied side bytes (waterfall u) s t d h b a q k m =
     side-no-play side u _ s t d h (row-plays-none u _ _ s) (waterfall-acts (s .sizes) _ (channelOf u s) a q (k u)) m
-dispatch-tallied side bytes otherStream s t d h b a q k m = passed-over-tallied side s t d h m
+dispatch-tallied side bytes otherStream s t d h b a q k m = m
 
 datagram-tallied : (side : Side) (bytes : List ℕ) (s : State) (t d h : ℕ) → Bytes bytes → firstNo (ownQuestions (s .sizes) (datagram bytes)) ≡ none → StateKept s
     → TalliedOn side s t d h → TalliedOn side (takeDatagram bytes s .after) t d h
@@ -172,19 +169,30 @@ abbrev pub TalliedAfter : Side → State → Call → Answer → ℕ → ℕ →
 TalliedAfter side s c a t d h =
     TalliedOn side s (tally side (λ p. p .taken) c a t) (tally side (λ p. p .dropped) c a d) (tally side (λ p. p .short) c a h)
 
+changes-tallied : (side : Side) (c : Call) (s : State) (t d h : ℕ) → CallBytes c → firstNo (ownQuestions (s .sizes) c) ≡ none → StateKept s
+    → TalliedOn side s t d h → TalliedAfter side (changes c s .after) c (changes c s .answer) t d h
+unfolding changes tally
+changes-tallied side (datagram bytes) s t d h b q k m = datagram-tallied side bytes s t d h b q k m
+changes-tallied side (play u n) s t d h b q k m =
+    play-tallied side u n s t d h (play-acts (s .sizes) n (channelOf u s) (allowed (s .sizes) (k .allowed)) (play-fits (s .sizes) u n q) (kept-channel u s k)) m
+changes-tallied side (reset u) s t d h b q k m = reset-tallied side u s t d h m
+changes-tallied side (set u x) s t d h b q k m =
+    side-no-play side u (setChannel x) s t d h (set-plays-none u x s) (set-acts (s .sizes) x (channelOf u s) (kept-channel u s k)) m
+changes-tallied side (probe t1 t2 t3 t4) s t d h b q k m = clock-tallied side _ s t d h m
+changes-tallied side (oneWay receive send) s t d h b q k m = clock-tallied side _ s t d h m
+changes-tallied side (depth samples counts) s t d h b q k m = clock-tallied side _ s t d h m
+changes-tallied side (transmitDepth samples) s t d h b q k m = clock-tallied side _ s t d h m
+
+-- counting the call moves nothing
+counted-tallied : (side : Side) (s : State) (t d h : ℕ) → TalliedOn side s t d h → TalliedOn side (oneCallMore s) t d h
+unfolding oneCallMore
+counted-tallied A s t d h k = k
+counted-tallied B s t d h k = k
+
 accept-tallied : (side : Side) (c : Call) (s : State) (t d h : ℕ) → CallBytes c → firstNo (ownQuestions (s .sizes) c) ≡ none → StateKept s
     → TalliedOn side s t d h → TalliedAfter side (accept c s .after) c (accept c s .answer) t d h
-unfolding accept tally
-accept-tallied side (datagram bytes) s t d h b q k m = datagram-tallied side bytes s t d h b q k m
-accept-tallied side (play u n) s t d h b q k m =
-    play-tallied side u n s t d h (play-acts (s .sizes) n (channelOf u s) (allowed (s .sizes) (k .allowed)) (play-fits (s .sizes) u n q) (kept-channel u s k)) m
-accept-tallied side (reset u) s t d h b q k m = reset-tallied side u s t d h m
-accept-tallied side (set u x) s t d h b q k m =
-    side-no-play side u (setChannel x) s t d h (set-plays-none u x s) (set-acts (s .sizes) x (channelOf u s) (kept-channel u s k)) m
-accept-tallied side (probe t1 t2 t3 t4) s t d h b q k m = clock-tallied side _ s t d h m
-accept-tallied side (oneWay receive send) s t d h b q k m = clock-tallied side _ s t d h m
-accept-tallied side (depth samples counts) s t d h b q k m = clock-tallied side _ s t d h m
-accept-tallied side (transmitDepth samples) s t d h b q k m = clock-tallied side _ s t d h m
+unfolding accept
+accept-tallied side c s t d h b q k m = counted-tallied side (changes c s .after) _ _ _ (changes-tallied side c s t d h b q k m)
 
 -- a refused call adds nothing
 refused-tally : (side : Side) (g : Played Float → ℕ) (c : Call) (n sum : ℕ) → tally side g c (refused n) sum ≡ sum

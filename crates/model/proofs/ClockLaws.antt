@@ -8,8 +8,8 @@ use lib.IntN.{ℤ, pos, negsuc}
 use lib.Dec.{leb}
 use borrow.Author.Tests.{leb-true, le-leb}
 use Rattle.model.specs.Sizes.{between}
-use Rattle.model.specs.Clock.{Timing, DepthCounts, Clock, stepToward, leastAfter, passesGate, timingAfter, probed, recordProbe, oneWayInRange, oneWayOf, oneWayAfter, oneWayed, recordOneWay, recordDepth, recordTransmit}
-use Rattle.model.specs.Receiver.{clockBound, offsetAllowed, timingHeld, oneWayHeld, clockHeld, probeAllowed}
+use Rattle.model.specs.Clock.{Timing, DepthCounts, Clock, stepToward, leastAfter, passesGate, timingAfter, probed, recordProbe, oneWayInRange, oneWayOf, oneWayAfter, oneWayUpdated, recordOneWay, recordDepth, recordTransmit}
+use Rattle.model.specs.Questions.{clockBound, offsetAllowed, timingHeld, oneWayHeld, clockHeld, probeAllowed}
 use Rattle.model.proofs.BoolLaws.{both-and, cond-keeps}
 use Rattle.model.proofs.StepLaws.{step-within}
 
@@ -70,8 +70,8 @@ one-way-after-held t new none fits h = fits
 one-way-after-held t new (some old) fits h = step-within (negsuc 999999999) (pos 5000000000) 8 old new h fits
 
 one-wayed-held : (receive send : ℕ) (t : Option Timing) (old : Option ℤ) → oneWayHeld t old ≡ true
-    → oneWayHeld t (oneWayed receive send t old) ≡ true
-unfolding oneWayed
+    → oneWayHeld t (oneWayUpdated receive send t old) ≡ true
+unfolding oneWayUpdated
 one-wayed-held receive send none old h = h
 one-wayed-held receive send (some t) old h =
     let new = oneWayOf receive send (t .offset) in

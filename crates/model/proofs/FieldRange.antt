@@ -7,10 +7,9 @@ use mathlib.Core.Bool.{true}
 use mathlib.Core.List.{List}
 use lib.ListN.{drop, length-take}
 use lib.Dec.{lit≤}
-use Rattle.model.specs.Bytes.{bigEndianAt, part}
+use Rattle.model.specs.Bytes.{bigEndianAt, part, all}
 use Rattle.model.specs.Framing.{headerFields, headerLength}
 use Rattle.model.specs.Row.{chunkTotal}
-use Rattle.model.specs.Receiver.{all}
 use Rattle.model.proofs.ListLaws.{all-drop, all-take}
 use Rattle.model.proofs.BytesLaws.{isByte, big-endian-below}
 

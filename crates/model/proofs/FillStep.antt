@@ -1,17 +1,17 @@
 -- One step of a fill: what it keeps, and what it moves. A step takes from the waiting packets what it queues, or counts a filler. Assumes nothing.
-use mathlib.Core.Path.{_≡_, refl, sym, _∙_, ap}
-use mathlib.Core.Bool.{Bool, true, false, cond}
+use mathlib.Core.Path.{_≡_, refl, ap}
+use mathlib.Core.Bool.{true, false}
 use mathlib.Core.Option.{Option, none, some}
 use mathlib.Core.List.{List, [], _∷_, _++_}
-use Prim.Native.Nat.{ℕ, suc, _+_, _*_, _%_, _^_, _≤_, _<_}
+use Prim.Native.Nat.{ℕ, suc, _+_, _*_, _^_, _≤_, _<_}
 use native.Mathlib.Omega.{arith}
-use native.Mathlib.Nat.{mod-lt, mod-le}
+use native.Mathlib.Nat.{mod-le}
 use lib.ListN.{length, length-append, length-replicate, replicate}
 use lib.Dec.{ltb, leb}
-use borrow.Author.Tests.{ltb-true, ltb-false, leb-true, leb-false}
+use borrow.Author.Tests.{ltb-true, leb-false}
 use Rattle.model.specs.Sizes.{Sizes}
 use Rattle.model.specs.Framing.{nextSequence}
-use Rattle.model.specs.JitterBuffer.{Counters, Packet, Buffer, Step, moved, concealed, stopped, buffered, isWaiting, samplesAt, without, earliest, withNext, does, resynced, act, countConcealed, countResync}
+use Rattle.model.specs.JitterBuffer.{Packet, Buffer, Step, moved, concealed, stopped, buffered, isWaiting, samplesAt, without, earliest, withNext, stepDue, resynced, afterStep, countConcealed, countResync}
 use Rattle.model.proofs.BoolLaws.{by-test, clash}
 use Rattle.model.specs.WholeList.{All}
 use Rattle.model.proofs.Waiting.{RisingFrom, rising-weaken, rising-without, rising-past, length-without, all-without, length-samples}
@@ -97,20 +97,20 @@ module _ {X : Type 0} where
       (λ w. let m : concealed n ≡ concealed s = rw w at e in let same : n ≡ s = cc in (ap some same, rw same at w, omega arith))
 
   -- a step that does not stop finds the queue below target
-  does-moved : (z : Sizes) (b : Buffer X) (s : ℕ) → does z b ≡ moved s
+  due-moved : (z : Sizes) (b : Buffer X) (s : ℕ) → stepDue z b ≡ moved s
       → (length (b .queue) < z .target) × (b .next ≡ some s) × (isWaiting s (b .waiting) ≡ true)
-  unfolding does
-  does-moved z b s e =
+  unfolding stepDue
+  due-moved z b s e =
       by-test (ltb (length (b .queue)) (z .target))
       (λ t. let m : withNext (b .next) (b .waiting) ≡ moved s = rw t at e in
       let n = next-moved (b .next) (b .waiting) s m in
       (ltb-true _ _ t, n .0, n .1))
       (λ t. let m : stopped ≡ moved s = rw t at e in clash (cc))
 
-  pub does-concealed : (z : Sizes) (b : Buffer X) (s : ℕ) → does z b ≡ concealed s
+  pub due-concealed : (z : Sizes) (b : Buffer X) (s : ℕ) → stepDue z b ≡ concealed s
       → (length (b .queue) < z .target) × (b .next ≡ some s) × (isWaiting s (b .waiting) ≡ false) × (0 < length (b .waiting))
-  unfolding does
-  does-concealed z b s e =
+  unfolding stepDue
+  due-concealed z b s e =
       by-test (ltb (length (b .queue)) (z .target))
       (λ t. let m : withNext (b .next) (b .waiting) ≡ concealed s = rw t at e in
       let n = next-concealed (b .next) (b .waiting) s m in
@@ -123,10 +123,10 @@ module _ {X : Type 0} where
   all-sized z [] a = tt
   all-sized z (p ∷ ps) a = (a .0 .samples, all-sized z ps (a .1))
 
-  moved-keeps : (filler : X) (z : Sizes) (b : Buffer X) (s : ℕ) → does z b ≡ moved s → Loose z b → Loose z (act filler z (moved s) b)
-  unfolding act
+  moved-keeps : (filler : X) (z : Sizes) (b : Buffer X) (s : ℕ) → stepDue z b ≡ moved s → Loose z b → Loose z (afterStep filler z (moved s) b)
+  unfolding afterStep
   moved-keeps filler z b s e l =
-      let h = does-moved z b s e in
+      let h = due-moved z b s e in
       let r : RisingFrom s (b .waiting) = rw (h .1) at (l .rising) in
       record {
         rising = rising-weaken (without s (b .waiting)) (next-not-above s) (rising-without s (b .waiting) r (h .2));
@@ -143,10 +143,10 @@ module _ {X : Type 0} where
   earliest-keeps z n [] q h r a = absurd (omega arith)
   earliest-keeps z n (p ∷ ps) q h r a = ((omega arith, r .1), a .0 .sequence)
 
-  concealed-keeps : (filler : X) (z : Sizes) (b : Buffer X) (s : ℕ) → does z b ≡ concealed s → Loose z b → Loose z (act filler z (concealed s) b)
-  unfolding act resynced
+  concealed-keeps : (filler : X) (z : Sizes) (b : Buffer X) (s : ℕ) → stepDue z b ≡ concealed s → Loose z b → Loose z (afterStep filler z (concealed s) b)
+  unfolding afterStep resynced
   concealed-keeps filler z b s e l =
-      let h = does-concealed z b s e in
+      let h = due-concealed z b s e in
       let r : RisingFrom s (b .waiting) = rw (h .1) at (l .rising) in
       let past = rising-past s (b .waiting) r (h .2) in
       let fits : length (b .queue ++ replicate (z .packet) filler) < z .target + z .packet =
@@ -164,16 +164,16 @@ module _ {X : Type 0} where
 
   -- ---- what a step moves
 
-  moved-flows : (filler : X) (z : Sizes) (b : Buffer X) (s : ℕ) → does z b ≡ moved s → Loose z b → Flow z b (act filler z (moved s) b)
-  unfolding act buffered
+  moved-flows : (filler : X) (z : Sizes) (b : Buffer X) (s : ℕ) → stepDue z b ≡ moved s → Loose z b → Flow z b (afterStep filler z (moved s) b)
+  unfolding afterStep buffered
   moved-flows filler z b s e l =
-      let h = does-moved z b s e in
+      let h = due-moved z b s e in
       let q = length-samples (z .packet) s (b .waiting) (all-sized z (b .waiting) (l .packets)) (h .2) in
       let w = length-without s (b .waiting) (h .2) in
       omega (arith, length-append (b .queue) (samplesAt s (b .waiting)), ap (λ (n : ℕ). z .packet * n) w)
 
-  concealed-flows : (filler : X) (z : Sizes) (b : Buffer X) (s : ℕ) → 1 ≤ z .packet → does z b ≡ concealed s → Flow z b (act filler z (concealed s) b)
-  unfolding act resynced buffered countConcealed countResync
+  concealed-flows : (filler : X) (z : Sizes) (b : Buffer X) (s : ℕ) → 1 ≤ z .packet → stepDue z b ≡ concealed s → Flow z b (afterStep filler z (concealed s) b)
+  unfolding afterStep resynced buffered countConcealed countResync
   concealed-flows filler z b s p e =
       let q : length (b .queue ++ replicate (z .packet) filler) ≡ length (b .queue) + z .packet =
       simp (length-append, length-replicate) in
@@ -181,20 +181,20 @@ module _ {X : Type 0} where
 
   -- ---- the step, whatever it does
 
-  pub step-keeps : (filler : X) (z : Sizes) (b : Buffer X) → Loose z b → Loose z (act filler z (does z b) b)
-  unfolding act
-  step-keeps filler z b l = go (does z b) refl
+  pub step-keeps : (filler : X) (z : Sizes) (b : Buffer X) → Loose z b → Loose z (afterStep filler z (stepDue z b) b)
+  unfolding afterStep
+  step-keeps filler z b l = go (stepDue z b) refl
     where
-      go : (d : Step) → does z b ≡ d → Loose z (act filler z d b)
+      go : (d : Step) → stepDue z b ≡ d → Loose z (afterStep filler z d b)
       go (moved s) e = moved-keeps filler z b s e l
       go (concealed s) e = concealed-keeps filler z b s e l
       go stopped e = l
 
-  pub step-flows : (filler : X) (z : Sizes) (b : Buffer X) → 1 ≤ z .packet → Loose z b → Flow z b (act filler z (does z b) b)
-  unfolding act
-  step-flows filler z b p l = go (does z b) refl
+  pub step-flows : (filler : X) (z : Sizes) (b : Buffer X) → 1 ≤ z .packet → Loose z b → Flow z b (afterStep filler z (stepDue z b) b)
+  unfolding afterStep
+  step-flows filler z b p l = go (stepDue z b) refl
     where
-      go : (d : Step) → does z b ≡ d → Flow z b (act filler z d b)
+      go : (d : Step) → stepDue z b ≡ d → Flow z b (afterStep filler z d b)
       go (moved s) e = moved-flows filler z b s e l
       go (concealed s) e = concealed-flows filler z b s p e
       go stopped e = flow-none z b
@@ -204,19 +204,19 @@ module _ {X : Type 0} where
     pub below : length (b .queue) < z .target
     pub queue : length (c .queue) ≡ length (b .queue) + z .packet
 
-  pub moved-queues : (filler : X) (z : Sizes) (b : Buffer X) (s : ℕ) → does z b ≡ moved s → Loose z b → Queued z b (act filler z (moved s) b)
-  unfolding act
+  pub moved-queues : (filler : X) (z : Sizes) (b : Buffer X) (s : ℕ) → stepDue z b ≡ moved s → Loose z b → Queued z b (afterStep filler z (moved s) b)
+  unfolding afterStep
   moved-queues filler z b s e l =
-      let h = does-moved z b s e in
+      let h = due-moved z b s e in
       record {
         below = h .0;
         queue = simp length-append (omega (arith, length-samples (z .packet) s (b .waiting) (all-sized z (b .waiting) (l .packets)) (h .2)));
       }
 
-  pub concealed-queues : (filler : X) (z : Sizes) (b : Buffer X) (s : ℕ) → does z b ≡ concealed s → Queued z b (act filler z (concealed s) b)
-  unfolding act resynced
+  pub concealed-queues : (filler : X) (z : Sizes) (b : Buffer X) (s : ℕ) → stepDue z b ≡ concealed s → Queued z b (afterStep filler z (concealed s) b)
+  unfolding afterStep resynced
   concealed-queues filler z b s e =
-      let h = does-concealed z b s e in
+      let h = due-concealed z b s e in
       let q : length (b .queue ++ replicate (z .packet) filler) ≡ length (b .queue) + z .packet =
       simp (length-append, length-replicate) in
       by-test (leb 3 (b .run + 1)) (λ t. rw t (record { below = h .0; queue = q })) (λ t. rw t (record { below = h .0; queue = q }))

@@ -1,24 +1,25 @@
 -- What every call keeps of a receiver's state, and that a kept state answers question 3 with yes. Assumes nothing.
-use mathlib.Core.Path.{_≡_, refl, sym, _∙_, ap}
-use mathlib.Core.Bool.{Bool, true, false, _&&_, cond}
+use mathlib.Core.Path.{_≡_, refl}
+use mathlib.Core.Bool.{true}
 use mathlib.Core.Option.{Option, none, some}
 use mathlib.Core.List.{List, [], _∷_}
-use Prim.Native.Nat.{ℕ, suc, _+_, _*_, _^_, _≤_, _<_}
+use Prim.Native.Nat.{ℕ, suc, _*_, _≤_}
 use native.Mathlib.Omega.{arith}
 use lib.ListN.{length}
-use lib.Dec.{leb, ltb, eqb}
+use lib.Dec.{leb}
 use lib.Ieee.{Float}
 use borrow.Author.Tests.{le-leb, lt-ltb, eq-eqb}
 use Rattle.model.specs.Sizes.{Sizes, sizesAllowed}
 use Rattle.model.specs.Counts.{StreamCounts}
 use Rattle.model.specs.JitterBuffer.{Counters, Packet, Buffer}
-use Rattle.model.specs.Receiver.{State, Channel, mostCalls, all, sequences, strictlyRising, startHeld, countersHeld, bufferHeld, rowHeld, channelHeld, clockHeld, streamHeld, held}
+use Rattle.model.specs.Bytes.{all}
+use Rattle.model.specs.Receiver.{State, Channel}
+use Rattle.model.specs.Questions.{mostAdded, sequences, strictlyRising, startHeld, countersHeld, bufferHeld, channelHeld, clockHeld, streamHeld, held}
 use Rattle.model.proofs.BoolLaws.{both-and}
 use Rattle.model.proofs.Waiting.{RisingFrom}
 use Rattle.model.proofs.FillStep.{NextKept, lowest}
 use Rattle.model.proofs.BufferKept.{Idle, Kept}
 use Rattle.model.proofs.RowLaws.{row-kept-held}
-use Rattle.model.proofs.SizeLaws.{Allowed}
 use Rattle.model.proofs.ChannelKept.{ChannelKept}
 
 -- each counter is at most the limit
@@ -32,28 +33,23 @@ pub record Within (limit : ℕ) (k : Counters) : Type 0 where
   pub resyncs : k .resyncs ≤ limit
   pub filled : k .filled ≤ limit
 
--- a stream's counts are at most the limit, and its last sequence has 32 bits
-abbrev pub LastKept : Option ℕ → Type 0
-LastKept none = Unit {0}
-LastKept (some n) = n < 2 ^ 32
-
+-- a stream's counts are at most the limit
 pub record StreamWithin (limit : ℕ) (c : StreamCounts) : Type 0 where
   pub packets : c .packets ≤ limit
   pub dropped : c .dropped ≤ limit
   pub late : c .late ≤ limit
-  pub last : LastKept (c .last)
 
 -- what holds of a state between calls
 pub record StateKept (s : State) : Type 0 where
   pub allowed : sizesAllowed (s .sizes) ≡ true
   pub channelA : ChannelKept (s .sizes) (s .channelA)
   pub channelB : ChannelKept (s .sizes) (s .channelB)
-  pub countersA : Within (s .calls * mostCalls) (s .channelA .buffer .counters)
-  pub countersB : Within (s .calls * mostCalls) (s .channelB .buffer .counters)
+  pub countersA : Within (s .calls * mostAdded) (s .channelA .buffer .counters)
+  pub countersB : Within (s .calls * mostAdded) (s .channelB .buffer .counters)
   pub clock : clockHeld (s .clock) ≡ true
-  pub incoming : s .incoming ≤ s .calls * mostCalls
-  pub audio : StreamWithin (s .calls * mostCalls) (s .counts .audio)
-  pub waterfall : StreamWithin (s .calls * mostCalls) (s .counts .waterfall)
+  pub incoming : s .incoming ≤ s .calls * mostAdded
+  pub audio : StreamWithin (s .calls * mostAdded) (s .counts .audio)
+  pub waterfall : StreamWithin (s .calls * mostAdded) (s .counts .waterfall)
 
 -- ---- each part of question 3
 
@@ -112,8 +108,8 @@ stream-held limit c w =
 pub kept-held : (s : State) → StateKept s → held s ≡ true
 unfolding held
 kept-held s k =
-    both-and (channel-held (s .sizes) (s .calls * mostCalls) (s .channelA) (k .channelA) (k .countersA))
-    (both-and (channel-held (s .sizes) (s .calls * mostCalls) (s .channelB) (k .channelB) (k .countersB))
+    both-and (channel-held (s .sizes) (s .calls * mostAdded) (s .channelA) (k .channelA) (k .countersA))
+    (both-and (channel-held (s .sizes) (s .calls * mostAdded) (s .channelB) (k .channelB) (k .countersB))
     (both-and (k .clock)
     (both-and (le-leb _ _ (k .incoming))
-    (both-and (stream-held (s .calls * mostCalls) (s .counts .audio) (k .audio)) (stream-held (s .calls * mostCalls) (s .counts .waterfall) (k .waterfall))))))
+    (both-and (stream-held (s .calls * mostAdded) (s .counts .audio) (k .audio)) (stream-held (s .calls * mostAdded) (s .counts .waterfall) (k .waterfall))))))

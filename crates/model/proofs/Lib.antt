@@ -20,6 +20,7 @@ pub mod ClockLaws
 pub mod ChannelKept
 pub mod Held
 pub mod Accepted
+pub mod HeldKept
 pub mod Reachable
 pub mod Lines
 pub mod ChannelSum

@@ -1,17 +1,20 @@
 -- Lines are independent: a call changes its own line only, and what it answers and leaves there comes from that line alone. Assumes nothing.
 use mathlib.Core.Path.{_≡_, refl, sym, _∙_, ap}
-use mathlib.Core.Bool.{Bool, true, false, cond, _&&_, false≢true, true≢false}
+use mathlib.Core.Bool.{true, false, false≢true, true≢false}
 use mathlib.Core.Option.{Option, none, some}
 use mathlib.Core.List.{List, [], _∷_}
-use Prim.Native.Nat.{ℕ, suc, _+_, _≤_}
+use Prim.Native.Nat.{ℕ, suc}
 use native.Mathlib.Omega.{arith}
 use lib.ListN.{length, drop}
-use Rattle.model.specs.Sizes.{Sizes, between}
-use Rattle.model.specs.Framing.{headerFields, headerLength, validHeader, Side, A, B, Stream, audio, waterfall, otherStream}
+use Rattle.model.specs.Sizes.{Sizes}
+use Rattle.model.specs.Framing.{headerFields, headerLength, Side, A, B, Stream, audio, waterfall, otherStream, streamIn}
 use Rattle.model.specs.Samples.{audioPayload}
-use Rattle.model.specs.Clock.{Clock, probeOffset, probeRoundTrip, recordProbe, recordOneWay, recordDepth, recordTransmit}
-use Rattle.model.specs.Receiver.{Call, datagram, play, reset, set, probe, oneWay, depth, transmitDepth, State, Channel, ChannelResult, Lent, Answer, refused, accepted, StepResult, firstNo, mostCalls, ownQuestions, streamIn, playChannel, resetChannel, setChannel, audioInto, waterfallInto, onSide, onClock, countsAfter, countHeader, passedOver, dispatch, takeDatagram, accept, decide, step, Event, Run, run, Line, channel, clock, streamLine, lineOf, sameSide, sameLine, isOf, onlyCalls, onlyEvents, LineState, stateA, stateB, stateClock, lineState}
-use Rattle.model.proofs.BoolLaws.{by-test, clash, both-and}
+use Rattle.model.specs.Clock.{Clock}
+use Rattle.model.specs.Receiver.{Call, datagram, play, reset, set, probe, oneWay, depth, transmitDepth, State, Channel, Lent, StepResult}
+use Rattle.model.specs.Questions.{firstNo, ownQuestions}
+use Rattle.model.specs.Step.{ChannelResult, playChannel, resetChannel, setChannel, audioInto, waterfallInto, onSide, onClock, countsAfter, countHeader, dispatch, takeDatagram, changes, oneCallMore, accept, decide, step, Run, run}
+use Rattle.model.specs.Lines.{Line, channel, clock, streamLine, lineOf, sameLine, isOf, onlyCalls, onlyEvents, lineState}
+use Rattle.model.proofs.BoolLaws.{by-test, both-and}
 use Rattle.model.specs.WholeList.{All, CallBytes}
 use Rattle.model.proofs.Accepted.{first-yes}
 use Rattle.model.proofs.Reachable.{Ready, ready-step, Room, room-ready, room-step, step-at-most}
@@ -96,18 +99,12 @@ header-other (channel A) sequence otherStream s h = refl
 header-other (channel B) sequence stream s h = refl
 header-other clock sequence stream s h = refl
 
-passed-over-other : (l : Line) (s : State) → lineState l (passedOver s .after) ≡ lineState l s
-unfolding passedOver lineState
-passed-over-other (channel A) s = refl
-passed-over-other (channel B) s = refl
-passed-over-other clock s = refl
-
 dispatch-other : (l : Line) (bytes : List ℕ) (stream : Stream) (s : State) → isOf l (streamLine stream) ≡ false
     → lineState l (dispatch (headerFields bytes) bytes stream s .after) ≡ lineState l s
 unfolding dispatch streamLine
 dispatch-other l bytes (audio side) s h = side-other l side _ s h
 dispatch-other l bytes (waterfall side) s h = side-other l side _ s h
-dispatch-other l bytes otherStream s h = passed-over-other l s
+dispatch-other l bytes otherStream s h = refl
 
 dispatch-same : (l : Line) (bytes : List ℕ) (stream : Stream) (s t : State) → s .sizes ≡ t .sizes → isOf l (streamLine stream) ≡ true
     → lineState l s ≡ lineState l t
@@ -129,37 +126,56 @@ datagram-line z bytes h =
     rw (both-and (six .0) (seven .0))
 
 -- it changes its own line only
-accept-other : (l : Line) (c : Call) (s : State) → firstNo (ownQuestions (s .sizes) c) ≡ none → isOf l (lineOf c) ≡ false
-    → lineState l (accept c s .after) ≡ lineState l s
-unfolding accept lineOf takeDatagram
-accept-other l (datagram bytes) s q h =
+changes-other : (l : Line) (c : Call) (s : State) → firstNo (ownQuestions (s .sizes) c) ≡ none → isOf l (lineOf c) ≡ false
+    → lineState l (changes c s .after) ≡ lineState l s
+unfolding changes lineOf takeDatagram
+changes-other l (datagram bytes) s q h =
     let m : isOf l (streamLine (streamIn bytes)) ≡ false = rw (datagram-line (s .sizes) bytes q) at h in
     dispatch-other l bytes (streamIn bytes) (countHeader (headerFields bytes .sequence) (streamIn bytes) s) m
     ∙ header-other l (headerFields bytes .sequence) (streamIn bytes) s m
-accept-other l (play side n) s q h = side-other l side _ s h
-accept-other l (reset side) s q h = side-other l side _ s h
-accept-other l (set side x) s q h = side-other l side _ s h
-accept-other l (probe t1 t2 t3 t4) s q h = clock-other l _ s h
-accept-other l (oneWay receive send) s q h = clock-other l _ s h
-accept-other l (depth samples counts) s q h = clock-other l _ s h
-accept-other l (transmitDepth samples) s q h = clock-other l _ s h
+changes-other l (play side n) s q h = side-other l side _ s h
+changes-other l (reset side) s q h = side-other l side _ s h
+changes-other l (set side x) s q h = side-other l side _ s h
+changes-other l (probe t1 t2 t3 t4) s q h = clock-other l _ s h
+changes-other l (oneWay receive send) s q h = clock-other l _ s h
+changes-other l (depth samples counts) s q h = clock-other l _ s h
+changes-other l (transmitDepth samples) s q h = clock-other l _ s h
 
 -- what it answers and leaves comes from its line
-accept-same : (l : Line) (c : Call) (s t : State) → firstNo (ownQuestions (s .sizes) c) ≡ none → isOf l (lineOf c) ≡ true → s .sizes ≡ t .sizes
-    → lineState l s ≡ lineState l t → Agree l (accept c s) (accept c t)
-unfolding accept lineOf takeDatagram countHeader
-accept-same l (datagram bytes) s t q h z e =
+changes-same : (l : Line) (c : Call) (s t : State) → firstNo (ownQuestions (s .sizes) c) ≡ none → isOf l (lineOf c) ≡ true → s .sizes ≡ t .sizes
+    → lineState l s ≡ lineState l t → Agree l (changes c s) (changes c t)
+unfolding changes lineOf takeDatagram countHeader
+changes-same l (datagram bytes) s t q h z e =
     let m : isOf l (streamLine (streamIn bytes)) ≡ true = rw (datagram-line (s .sizes) bytes q) at h in
     let n = headerFields bytes .sequence in
     dispatch-same l bytes (streamIn bytes) (countHeader n (streamIn bytes) s) (countHeader n (streamIn bytes) t) z m
     (header-same l n (streamIn bytes) s t e)
-accept-same l (play side n) s t q h z e = side-same (λ y. playChannel y n) l side s t h z e
-accept-same l (reset side) s t q h z e = side-same (λ y. resetChannel) l side s t h z e
-accept-same l (set side x) s t q h z e = side-same (λ y. setChannel x) l side s t h z e
-accept-same l (probe t1 t2 t3 t4) s t q h z e = clock-same l _ s t h e
-accept-same l (oneWay receive send) s t q h z e = clock-same l _ s t h e
-accept-same l (depth samples counts) s t q h z e = clock-same l _ s t h e
-accept-same l (transmitDepth samples) s t q h z e = clock-same l _ s t h e
+changes-same l (play side n) s t q h z e = side-same (λ y. playChannel y n) l side s t h z e
+changes-same l (reset side) s t q h z e = side-same (λ y. resetChannel) l side s t h z e
+changes-same l (set side x) s t q h z e = side-same (λ y. setChannel x) l side s t h z e
+changes-same l (probe t1 t2 t3 t4) s t q h z e = clock-same l _ s t h e
+changes-same l (oneWay receive send) s t q h z e = clock-same l _ s t h e
+changes-same l (depth samples counts) s t q h z e = clock-same l _ s t h e
+changes-same l (transmitDepth samples) s t q h z e = clock-same l _ s t h e
+
+-- the number of accepted calls is no line's
+counted-line : (l : Line) (s : State) → lineState l (oneCallMore s) ≡ lineState l s
+unfolding oneCallMore lineState
+counted-line (channel A) s = refl
+counted-line (channel B) s = refl
+counted-line clock s = refl
+
+accept-other : (l : Line) (c : Call) (s : State) → firstNo (ownQuestions (s .sizes) c) ≡ none → isOf l (lineOf c) ≡ false
+    → lineState l (accept c s .after) ≡ lineState l s
+unfolding accept
+accept-other l c s q h = counted-line l (changes c s .after) ∙ changes-other l c s q h
+
+accept-same : (l : Line) (c : Call) (s t : State) → firstNo (ownQuestions (s .sizes) c) ≡ none → isOf l (lineOf c) ≡ true → s .sizes ≡ t .sizes
+    → lineState l s ≡ lineState l t → Agree l (accept c s) (accept c t)
+unfolding accept
+accept-same l c s t q h z e =
+    let a = changes-same l c s t q h z e in
+    record { answer = a .answer; after = counted-line l (changes c s .after) ∙ a .after ∙ sym (counted-line l (changes c t .after)) }
 
 -- ---- steps
 

@@ -6,9 +6,8 @@ use mathlib.Core.List.{List, [], _∷_, _++_, zipWith, append-cancel-left}
 use native.Mathlib.Omega.{arith}
 use lib.ListN.{length, take, drop, getD, replicate, drop-of-length-le, length-append, length-take, length-drop}
 use lib.Seq.{drop-cons, take-take, take-add, take-append-add}
-use Rattle.model.specs.Bytes.{placed}
+use Rattle.model.specs.Bytes.{placed, all}
 use Rattle.model.specs.Picture.{countFrom}
-use Rattle.model.specs.Receiver.{all}
 use Rattle.model.proofs.BoolLaws.{clash, both-and, first-of-both, second-of-both}
 
 -- ---- every element

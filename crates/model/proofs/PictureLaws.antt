@@ -15,7 +15,9 @@ use Rattle.model.specs.Sizes.{Sizes}
 use Rattle.model.specs.Row.{Row, pushChunk}
 use Rattle.model.specs.Scaling.{averaged, spectrumAfter, smoothed, smoothingWeight, smoothingAfter}
 use Rattle.model.specs.Picture.{countFrom, drawnRow, pictureAfter}
-use Rattle.model.specs.Receiver.{Channel, totalAllowed, shownRow, chunkResult, waterfallInto}
+use Rattle.model.specs.Receiver.{Channel}
+use Rattle.model.specs.Questions.{totalAllowed}
+use Rattle.model.specs.Step.{shownRow, chunkResult, waterfallInto}
 use Rattle.model.proofs.BoolLaws.{cond-keeps, neither-first}
 use Rattle.model.proofs.ListLaws.{zipWith-length, countFrom-length}
 use Rattle.model.proofs.RowLaws.{RowKept, CompletedKept, push-chunk-keeps, push-chunk-completes}

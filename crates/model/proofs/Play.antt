@@ -1,19 +1,17 @@
 -- A play keeps a buffer, and lets out of it what it says was taken and dropped. Assumes nothing.
-use mathlib.Core.Path.{_≡_, refl, sym, _∙_, ap}
-use mathlib.Core.Bool.{Bool, true, false, cond, _&&_}
+use mathlib.Core.Path.{_≡_}
 use mathlib.Core.Option.{Option, none, some}
-use mathlib.Core.List.{List, [], _∷_, _++_}
-use Prim.Native.Nat.{ℕ, zero, suc, _+_, _-_, _*_, _/_, _≤_, _<_, min}
+use mathlib.Core.List.{List}
+use Prim.Native.Nat.{ℕ, _+_, _≤_, min}
 use native.Mathlib.Omega.{arith}
-use lib.Dec.{leb}
-use lib.ListN.{length, take, drop, replicate, length-drop, length-append, length-take, length-replicate}
+use lib.ListN.{length, drop, length-drop, length-append, length-take, length-replicate}
 use Rattle.model.specs.Sizes.{Sizes}
-use Rattle.model.specs.JitterBuffer.{Counters, Buffer, Played, PlayResult, isStarted, buffered, counting, countShort, tooLong, dropCount, handOut, playFillers, playFilled, play, fill}
-use Rattle.model.proofs.BoolLaws.{by-test, cond-keeps}
-use Rattle.model.proofs.FillStep.{NextKept, Loose, Flow}
+use Rattle.model.specs.JitterBuffer.{Buffer, Played, PlayResult, isStarted, buffered, counting, countShort, tooLong, dropCount, handOut, playFillers, playFilled, play, fill}
+use Rattle.model.proofs.BoolLaws.{cond-keeps}
+use Rattle.model.proofs.FillStep.{NextKept}
 use Rattle.model.proofs.Fill.{fill-keeps, fill-flows}
 use Rattle.model.proofs.SizeLaws.{Allowed}
-use Rattle.model.proofs.BufferKept.{Idle, Kept, Moves, moves-then, flow-moves, counting-keeps}
+use Rattle.model.proofs.BufferKept.{Kept, Moves, moves-then, flow-moves, counting-keeps}
 use Rattle.model.proofs.Push.{fill-idle}
 
 -- no more is dropped than is queued

@@ -1,23 +1,23 @@
 -- A push keeps a buffer, and moves in it what it counts. Assumes nothing.
-use mathlib.Core.Path.{_≡_, refl, sym, _∙_, ap}
-use mathlib.Core.Bool.{Bool, true, false, cond}
+use mathlib.Core.Path.{_≡_, refl, ap}
+use mathlib.Core.Bool.{Bool, true, false}
 use mathlib.Core.Option.{Option, none, some}
 use mathlib.Core.List.{List, [], _∷_}
 use Prim.Native.Nat.{ℕ, zero, suc, _+_, _*_, _^_, _≤_, _<_, max}
 use native.Mathlib.Omega.{arith}
 use native.Mathlib.Nat.{mul-le-mul-left}
 use lib.ListN.{length}
-use lib.Dec.{ltb, leb, eqb}
-use borrow.Author.Tests.{ltb-true, ltb-false, leb-true, leb-false, eqb-true, eqb-false}
-use Rattle.model.specs.Sizes.{Sizes, mostWaiting}
-use Rattle.model.specs.JitterBuffer.{Counters, Packet, Buffer, Step, moved, concealed, stopped, buffered, counting, insert, isWaiting, earliest, does, act, resynced, orElse, fillSteps, fill, isLate, hasRoom, stored, startAt, start, noteLargest, settle, judged, push, countReceived, countInserted, countLate, countOverflow, countInvalidSize}
+use lib.Dec.{leb, eqb}
+use borrow.Author.Tests.{ltb-true, ltb-false, leb-true, leb-false, eqb-true}
+use Rattle.model.specs.Sizes.{Sizes}
+use Rattle.model.specs.JitterBuffer.{Packet, Buffer, Step, moved, concealed, stopped, buffered, counting, isWaiting, earliest, stepDue, afterStep, resynced, fillSteps, fill, isLate, hasRoom, stored, startAt, start, noteLargest, storedAndFilled, storedOrCounted, push, countReceived, countInserted, countLate, countOverflow, countInvalidSize}
 use Rattle.model.proofs.BoolLaws.{by-test, cond-keeps}
 use Rattle.model.specs.WholeList.{All}
-use Rattle.model.proofs.Waiting.{RisingFrom, rising-weaken, rising-insert, length-insert-new, length-insert-duplicate, all-insert}
-use Rattle.model.proofs.FillStep.{PacketKept, NextKept, Loose, Flow, lowest, earliest-keeps, does-concealed}
-use Rattle.model.proofs.Fill.{or-else-keeps, fill-keeps, fill-flows}
+use Rattle.model.proofs.Waiting.{RisingFrom, rising-insert, length-insert-new, length-insert-duplicate, all-insert}
+use Rattle.model.proofs.FillStep.{PacketKept, NextKept, Loose, lowest, earliest-keeps, due-concealed}
+use Rattle.model.proofs.Fill.{unless-stopped-keeps, fill-keeps, fill-flows}
 use Rattle.model.proofs.SizeLaws.{Allowed, room-for-one}
-use Rattle.model.proofs.BufferKept.{Grown, Idle, Kept, Moves, moves-then, flow-moves, counting-keeps}
+use Rattle.model.proofs.BufferKept.{Idle, Kept, Moves, moves-then, flow-moves, counting-keeps}
 
 module _ {X : Type 0} (filler : X) (z : Sizes) where
   -- ---- a fill leaves an idle buffer idle
@@ -27,19 +27,19 @@ module _ {X : Type 0} (filler : X) (z : Sizes) where
   earliest-idle [] h = absurd (omega arith)
   earliest-idle (p ∷ ps) h = tt
 
-  concealed-idle : (b : Buffer X) (s : ℕ) → does z b ≡ concealed s
-      → Idle z (act filler z (concealed s) b .next) (act filler z (concealed s) b .waiting)
-  unfolding act resynced
+  concealed-idle : (b : Buffer X) (s : ℕ) → stepDue z b ≡ concealed s
+      → Idle z (afterStep filler z (concealed s) b .next) (afterStep filler z (concealed s) b .waiting)
+  unfolding afterStep resynced
   concealed-idle b s e =
       by-test (leb 3 (b .run + 1))
-      (λ t. rw t (earliest-idle (b .waiting) (does-concealed z b s e .3)))
+      (λ t. rw t (earliest-idle (b .waiting) (due-concealed z b s e .3)))
       (λ t. rw t tt)
 
-  step-idle : (b : Buffer X) → Idle z (b .next) (b .waiting) → Idle z (act filler z (does z b) b .next) (act filler z (does z b) b .waiting)
-  unfolding act
-  step-idle b i = go (does z b) refl
+  step-idle : (b : Buffer X) → Idle z (b .next) (b .waiting) → Idle z (afterStep filler z (stepDue z b) b .next) (afterStep filler z (stepDue z b) b .waiting)
+  unfolding afterStep
+  step-idle b i = go (stepDue z b) refl
     where
-      go : (d : Step) → does z b ≡ d → Idle z (act filler z d b .next) (act filler z d b .waiting)
+      go : (d : Step) → stepDue z b ≡ d → Idle z (afterStep filler z d b .next) (afterStep filler z d b .waiting)
       go (moved s) e = tt
       go (concealed s) e = concealed-idle b s e
       go stopped e = i
@@ -48,7 +48,7 @@ module _ {X : Type 0} (filler : X) (z : Sizes) where
   unfolding fillSteps
   steps-idle zero b i = i
   steps-idle (suc n) b i =
-      or-else-keeps filler z (λ c. Idle z (c .next) (c .waiting)) (does z b) b _ i (steps-idle n (act filler z (does z b) b) (step-idle b i))
+      unless-stopped-keeps filler z (λ c. Idle z (c .next) (c .waiting)) (stepDue z b) b _ i (steps-idle n (afterStep filler z (stepDue z b) b) (step-idle b i))
 
   pub fill-idle : (b : Buffer X) → Idle z (b .next) (b .waiting) → Idle z (fill filler z b .next) (fill filler z b .waiting)
   unfolding fill
@@ -121,8 +121,8 @@ module _ {X : Type 0} (filler : X) (z : Sizes) where
 
   -- all that a stored packet leaves: the start, the fill, the largest amount
   settle-keeps : (new : Packet X) (b : Buffer X) → Allowed z → PacketKept z new → isLate (new .sequence) (b .next) ≡ false
-      → buffered z b < z .max → Kept z b → Kept z (settle filler z new b)
-  unfolding settle noteLargest buffered start stored
+      → buffered z b < z .max → Kept z b → Kept z (storedAndFilled filler z new b)
+  unfolding storedAndFilled noteLargest buffered start stored
   settle-keeps new b z-allowed p late room k =
       let st = stored-keeps new b p late (k .loose) in
       let more = stored-length new b (k .loose) in
@@ -151,8 +151,8 @@ module _ {X : Type 0} (filler : X) (z : Sizes) where
 
   -- a stored packet is inserted or replaces one, and a fill follows
   settle-moves : (new : Packet X) (b : Buffer X) → Allowed z → PacketKept z new → isLate (new .sequence) (b .next) ≡ false
-      → Kept z b → Moves z 70000 b (settle filler z new b) 0 0
-  unfolding settle
+      → Kept z b → Moves z 70000 b (storedAndFilled filler z new b) 0 0
+  unfolding storedAndFilled
   settle-moves new b z-allowed p late k =
       let first : 1 ≤ z .target = omega arith in
       let s = stored new b in
@@ -185,8 +185,8 @@ module _ {X : Type 0} (filler : X) (z : Sizes) where
   invalid-moves b = omega arith
 
   judged-keeps : (room : Bool) (new : Packet X) (b : Buffer X) → Allowed z → new .sequence < 2 ^ 32 → (room ≡ true → buffered z b < z .max)
-      → Kept z b → Kept z (judged room filler z new b)
-  unfolding judged
+      → Kept z b → Kept z (storedOrCounted room filler z new b)
+  unfolding storedOrCounted
   judged-keeps room new b a fits has k =
       cond-keeps (Kept z) (eqb (length (new .samples)) (z .packet)) _ _
       (λ e. cond-keeps (Kept z) (isLate (new .sequence) (b .next)) _ _
@@ -197,8 +197,8 @@ module _ {X : Type 0} (filler : X) (z : Sizes) where
       (λ e. counting-keeps z countInvalidSize b k)
 
   judged-moves : (room : Bool) (new : Packet X) (b : Buffer X) → Allowed z → new .sequence < 2 ^ 32
-      → Kept z b → Moves z 70000 b (judged room filler z new b) 0 0
-  unfolding judged
+      → Kept z b → Moves z 70000 b (storedOrCounted room filler z new b) 0 0
+  unfolding storedOrCounted
   judged-moves room new b a fits k =
       let P : Buffer X → Type 0 = λ c. Moves z 70000 b c 0 0 in
       cond-keeps P (eqb (length (new .samples)) (z .packet)) _ _

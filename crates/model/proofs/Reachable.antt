@@ -1,22 +1,21 @@
 -- Every state that a list of calls reaches from an accepted setup can be held; so while calls are left no call is refused with 1 to 4. Assumes nothing.
-use mathlib.Core.Path.{_≡_, refl, sym, _∙_, ap}
-use mathlib.Core.Bool.{Bool, true, false, cond, _&&_}
+use mathlib.Core.Path.{_≡_, refl, ap}
+use mathlib.Core.Bool.{true}
 use mathlib.Core.Option.{Option, none, some}
 use mathlib.Core.List.{List, [], _∷_}
-use Prim.Native.Nat.{ℕ, zero, suc, _+_, _*_, _≤_, _<_}
+use Prim.Native.Nat.{ℕ, suc, _+_, _≤_, _<_}
 use native.Mathlib.Omega.{arith}
-use lib.ListN.{length}
-use lib.Dec.{ltb}
 use borrow.Author.Tests.{lt-ltb}
-use Rattle.model.specs.Sizes.{Sizes, sizesAllowed}
-use Rattle.model.specs.Framing.{headerFields, Side, A, B, Stream, audio, waterfall, otherStream}
-use Rattle.model.specs.Clock.{freshClock}
-use Rattle.model.specs.Receiver.{Setup, Call, datagram, play, reset, set, probe, oneWay, depth, transmitDepth, State, Channel, ChannelResult, Lent, Answer, refused, accepted, played, row, StepResult, Question, Opened, opened, notOpened, openedUnless, setUp, setupQuestions, fresh, freshChannel, firstNo, mostCalls, areasLong, held, clockHeld, timingHeld, oneWayHeld, ownQuestions, questions, streamIn, onSide, onClock, countHeader, passedOver, dispatch, takeDatagram, accept, decide, step, Event, Run, run}
-use Rattle.model.proofs.BoolLaws.{by-test, clash}
+use Rattle.model.specs.Sizes.{sizesAllowed}
+use Rattle.model.specs.Framing.{headerFields, Side, A, B, Stream, audio, waterfall, otherStream, streamIn}
+use Rattle.model.specs.Receiver.{Setup, Call, datagram, play, reset, set, probe, oneWay, depth, transmitDepth, State, Channel, Lent, fresh, freshChannel}
+use Rattle.model.specs.Questions.{opened, openedUnless, setUp, setupQuestions, firstNo, mostCalls, areasLong, held, clockHeld, timingHeld, oneWayHeld, ownQuestions, questions}
+use Rattle.model.specs.Step.{ChannelResult, onSide, onClock, countHeader, dispatch, takeDatagram, changes, oneCallMore, accept, decide, step, run}
+use Rattle.model.proofs.BoolLaws.{clash}
 use Rattle.model.specs.WholeList.{All, CallBytes}
-use Rattle.model.proofs.SizeLaws.{Allowed, allowed}
+use Rattle.model.proofs.SizeLaws.{allowed}
 use Rattle.model.proofs.ChannelKept.{fresh-channel-kept}
-use Rattle.model.proofs.Held.{Within, StreamWithin, StateKept, kept-held}
+use Rattle.model.proofs.Held.{StateKept, kept-held}
 use Rattle.model.proofs.Accepted.{first-yes, accept-keeps}
 
 -- ---- setup
@@ -51,8 +50,8 @@ fresh-kept setup h =
       countersB = omega arith;
       clock = refl;
       incoming = omega arith;
-      audio = record { packets = omega arith; dropped = omega arith; late = omega arith; last = tt };
-      waterfall = record { packets = omega arith; dropped = omega arith; late = omega arith; last = tt };
+      audio = record { packets = omega arith; dropped = omega arith; late = omega arith };
+      waterfall = record { packets = omega arith; dropped = omega arith; late = omega arith };
     }
 
 -- ---- steps
@@ -108,37 +107,45 @@ ready-step lent c s r = rw (r .kept .allowed, r .areas, kept-held s (r .kept), l
 
 -- ---- sizes stay, and an accepted call is one call more
 
-record OneMore (s t : State) : Type 0 where
+record Uncounted (s t : State) : Type 0 where
   sizes : t .sizes ≡ s .sizes
-  calls : t .calls ≡ s .calls + 1
+  calls : t .calls ≡ s .calls
 
-side-one-more : (side : Side) (f : Channel → ChannelResult) (s : State) → OneMore s (onSide side f s .after)
+side-uncounted : (side : Side) (f : Channel → ChannelResult) (s : State) → Uncounted s (onSide side f s .after)
 unfolding onSide
-side-one-more A f s = record { sizes = refl; calls = refl }
-side-one-more B f s = record { sizes = refl; calls = refl }
+side-uncounted A f s = record { sizes = refl; calls = refl }
+side-uncounted B f s = record { sizes = refl; calls = refl }
 
-dispatch-one-more : (bytes : List ℕ) (stream : Stream) (s : State) → OneMore s (dispatch (headerFields bytes) bytes stream s .after)
-unfolding dispatch passedOver
-dispatch-one-more bytes (audio side) s = side-one-more side _ s
-dispatch-one-more bytes (waterfall side) s = side-one-more side _ s
-dispatch-one-more bytes otherStream s = record { sizes = refl; calls = refl }
+dispatch-uncounted : (bytes : List ℕ) (stream : Stream) (s : State) → Uncounted s (dispatch (headerFields bytes) bytes stream s .after)
+unfolding dispatch
+dispatch-uncounted bytes (audio side) s = side-uncounted side _ s
+dispatch-uncounted bytes (waterfall side) s = side-uncounted side _ s
+dispatch-uncounted bytes otherStream s = record { sizes = refl; calls = refl }
 
-datagram-one-more : (bytes : List ℕ) (s : State) → OneMore s (takeDatagram bytes s .after)
+datagram-uncounted : (bytes : List ℕ) (s : State) → Uncounted s (takeDatagram bytes s .after)
 unfolding takeDatagram countHeader
-datagram-one-more bytes s =
-    let m = dispatch-one-more bytes (streamIn bytes) (countHeader (headerFields bytes .sequence) (streamIn bytes) s) in
+datagram-uncounted bytes s =
+    let m = dispatch-uncounted bytes (streamIn bytes) (countHeader (headerFields bytes .sequence) (streamIn bytes) s) in
     record { sizes = m .sizes; calls = m .calls }
 
-accept-one-more : (c : Call) (s : State) → OneMore s (accept c s .after)
-unfolding accept onClock
-accept-one-more (datagram bytes) s = datagram-one-more bytes s
-accept-one-more (play side n) s = side-one-more side _ s
-accept-one-more (reset side) s = side-one-more side _ s
-accept-one-more (set side x) s = side-one-more side _ s
-accept-one-more (probe t1 t2 t3 t4) s = record { sizes = refl; calls = refl }
-accept-one-more (oneWay receive send) s = record { sizes = refl; calls = refl }
-accept-one-more (depth samples counts) s = record { sizes = refl; calls = refl }
-accept-one-more (transmitDepth samples) s = record { sizes = refl; calls = refl }
+changes-uncounted : (c : Call) (s : State) → Uncounted s (changes c s .after)
+unfolding changes onClock
+changes-uncounted (datagram bytes) s = datagram-uncounted bytes s
+changes-uncounted (play side n) s = side-uncounted side _ s
+changes-uncounted (reset side) s = side-uncounted side _ s
+changes-uncounted (set side x) s = side-uncounted side _ s
+changes-uncounted (probe t1 t2 t3 t4) s = record { sizes = refl; calls = refl }
+changes-uncounted (oneWay receive send) s = record { sizes = refl; calls = refl }
+changes-uncounted (depth samples counts) s = record { sizes = refl; calls = refl }
+changes-uncounted (transmitDepth samples) s = record { sizes = refl; calls = refl }
+
+pub record OneMore (s t : State) : Type 0 where
+  pub sizes : t .sizes ≡ s .sizes
+  pub calls : t .calls ≡ s .calls + 1
+
+pub accept-one-more : (c : Call) (s : State) → OneMore s (accept c s .after)
+unfolding accept oneCallMore
+accept-one-more c s = let m = changes-uncounted c s in record { sizes = m .sizes; calls = ap (λ (n : ℕ). n + 1) (m .calls) }
 
 pub record AtMostOneMore (s t : State) : Type 0 where
   pub sizes : t .sizes ≡ s .sizes

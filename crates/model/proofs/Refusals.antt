@@ -1,20 +1,21 @@
 -- A refused call leaves the state as it was, and its number is that of the first question that is answered with no;
 -- a call that none refuses is accepted. In a list of at most 4,294,967,295 calls none is refused with 1 to 4. Assumes nothing.
-use mathlib.Core.Path.{_≡_, refl, sym, _∙_, ap}
-use mathlib.Core.Bool.{Bool, true, false, cond}
+use mathlib.Core.Path.{_≡_, refl, ap}
+use mathlib.Core.Bool.{true, false}
 use mathlib.Core.Option.{Option, none, some}
 use mathlib.Core.List.{List, [], _∷_, _++_}
-use Prim.Native.Nat.{ℕ, zero, suc, _+_, _≤_}
+use Prim.Native.Nat.{ℕ, _≤_}
 use native.Mathlib.Omega.{arith}
 use lib.ListN.{length}
 use lib.Ieee.{Float}
 use Rattle.model.specs.Sizes.{Sizes}
-use Rattle.model.specs.Framing.{headerFields, Side, A, B, Stream, audio, waterfall, otherStream}
-use Rattle.model.specs.Row.{Row, pushChunk}
-use Rattle.model.specs.Receiver.{Setup, Call, datagram, play, reset, set, probe, oneWay, depth, transmitDepth, State, Channel, ChannelResult, Lent, Answer, refused, accepted, played, row, StepResult, Question, Opened, opened, notOpened, openedUnless, setUp, setupQuestions, fresh, firstNo, mostCalls, ownQuestions, questions, streamIn, playChannel, resetChannel, setChannel, audioInto, chunkResult, waterfallInto, onSide, onClock, countHeader, passedOver, dispatch, takeDatagram, accept, decide, step, Event, Run, run, isAccepted}
+use Rattle.model.specs.Framing.{headerFields, Side, A, B, Stream, audio, waterfall, otherStream, streamIn}
+use Rattle.model.specs.Row.{Row}
+use Rattle.model.specs.Receiver.{Setup, Call, datagram, play, reset, set, probe, oneWay, depth, transmitDepth, State, Channel, Lent, refused, isAccepted}
+use Rattle.model.specs.Questions.{Question, opened, notOpened, openedUnless, setUp, setupQuestions, firstNo, mostCalls, ownQuestions, questions}
+use Rattle.model.specs.Step.{ChannelResult, playChannel, resetChannel, setChannel, audioInto, chunkResult, waterfallInto, onSide, onClock, dispatch, takeDatagram, changes, accept, decide, step, Event, run}
 use Rattle.model.specs.WholeList.{All, CallBytes}
 use Rattle.model.proofs.BoolLaws.{by-test, clash}
-use Rattle.model.proofs.Accepted.{first-yes}
 use Rattle.model.proofs.Reachable.{Ready, ready-step, Room, room-ready, room-step, set-up-room}
 
 -- ---- the first "no"
@@ -63,13 +64,13 @@ chunk-accepted z c kept none = refl
 chunk-accepted z c kept (some values) = refl
 
 dispatch-accepted : (bytes : List ℕ) (stream : Stream) (s : State) → isAccepted (dispatch (headerFields bytes) bytes stream s .answer) ≡ true
-unfolding dispatch passedOver audioInto waterfallInto isAccepted
+unfolding dispatch audioInto waterfallInto isAccepted
 dispatch-accepted bytes (audio side) s = side-accepted side _ s (λ c. refl)
 dispatch-accepted bytes (waterfall side) s = side-accepted side _ s (λ c. chunk-accepted _ c _ _)
 dispatch-accepted bytes otherStream s = refl
 
 pub accept-accepted : (c : Call) (s : State) → isAccepted (accept c s .answer) ≡ true
-unfolding accept takeDatagram playChannel resetChannel setChannel onClock isAccepted
+unfolding accept changes takeDatagram playChannel resetChannel setChannel onClock isAccepted
 accept-accepted (datagram bytes) s = dispatch-accepted bytes (streamIn bytes) _
 accept-accepted (play side n) s = side-accepted side _ s (λ c. refl)
 accept-accepted (reset side) s = side-accepted side _ s (λ c. refl)

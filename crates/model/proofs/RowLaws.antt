@@ -13,7 +13,7 @@ use Rattle.model.specs.Bytes.{placed}
 use Rattle.model.specs.Floats.{finite, f0}
 use Rattle.model.specs.Sizes.{Sizes}
 use Rattle.model.specs.Row.{Chunk, Row, RowResult, chunkTotal, chunkFields, wellFormed, openRow, rowFor, finitePrefix, complete, storeAll, storeSome, storeChunk, pushChunk}
-use Rattle.model.specs.Receiver.{rowHeld, totalAllowed}
+use Rattle.model.specs.Questions.{rowHeld, totalAllowed}
 use Rattle.model.proofs.BoolLaws.{both-and, cond-keeps, beq-same}
 use Rattle.model.proofs.ListLaws.{placed-length}
 

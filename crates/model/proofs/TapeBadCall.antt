@@ -2,14 +2,14 @@
 use Prim.Native.Nat.{ℕ, zero, suc, _+_, _-_, _≤_, _<_}
 use mathlib.Core.Path.{_≡_, refl, ap, _∙_}
 use mathlib.Core.Bool.{Bool, true, false}
-use mathlib.Core.Option.{none, some}
+use mathlib.Core.Option.{some}
 use mathlib.Core.List.{List, [], _∷_, _++_, append-assoc}
 use native.Mathlib.Omega.{arith}
 use lib.ListN.{length, take, drop, replicate, length-append, length-replicate}
 use lib.Seq.{drop-append-add, take-length, take-at, length-take-le}
 use lib.Dec.{eqb, eqb·suc-zero}
-use Rattle.model.specs.Receiver.{Call, all}
-use Rattle.model.specs.Bytes.{bigEndianBytes}
+use Rattle.model.specs.Bytes.{all, bigEndianBytes}
+use Rattle.model.specs.Receiver.{Call}
 use Rattle.model.specs.Tape.{Head, datagramHead, playHead, resetHead, setHead, probeHead, oneWayHead, depthHead, transmitHead, callWord, endWord, wordIn, bytesOf, wordsFor, bodyLength, callWords, callOf, paddedWithZeros, callFits, foundBad, foundWord, find}
 use Rattle.model.proofs.ListLaws.{all-tail, all-append, all-take, all-drop, all-replicate, alike-cons, alike-long}
 use Rattle.model.proofs.BoolLaws.{clash}

@@ -6,8 +6,9 @@ use mathlib.Core.List.{List, _∷_, _++_}
 use native.Mathlib.Omega.{arith}
 use lib.ListN.{length, take, drop, length-append, length-drop, take-append-drop}
 use lib.Seq.{take-at}
-use Rattle.model.specs.Receiver.{Call, all}
-use Rattle.model.specs.Tape.{callWords, Found, foundCall, foundEnd, foundBad, find, CallsRead, readCalls, badWord, before, goOn, callsFrom, callFits}
+use Rattle.model.specs.Bytes.{all}
+use Rattle.model.specs.Receiver.{Call}
+use Rattle.model.specs.Tape.{callWords, Found, foundCall, foundEnd, foundBad, find, CallsRead, readCalls, badWord, before, foundBefore, callsFrom, callFits}
 use Rattle.model.proofs.ListLaws.{all-cons, all-drop, alike-shorter, alike-behind, alike-appended, alike-long}
 use Rattle.model.proofs.BoolLaws.{clash}
 use Rattle.model.proofs.BytesLaws.{isWord}
@@ -30,7 +31,7 @@ pub record BadCalls (ws : List ℕ) (n : ℕ) : Type 0 where
       → callsFrom k′ part′ place′ ws′ ≡ badWord (place′ + n)
 
 bad-calls-here : (ws : List ℕ) (n : ℕ) → BadFound ws n → BadCalls ws n
-unfolding goOn
+unfolding foundBefore
 bad-calls-here ws n b = record { within = b .within; calls = b .calls; fit = b .fit; alike = b .alike; stays = stays }
   where
     stays : n < length ws
@@ -65,7 +66,7 @@ module _ (c : Call) (n : ℕ) (ws : List ℕ) (f : CallFound ws c n) (m : ℕ) (
       → length ws′ < k′
       → take (suc (n + m)) ws′ ≡ take (suc (n + m)) ws
       → callsFrom k′ part′ place′ ws′ ≡ badWord (place′ + (n + m))
-  unfolding goOn before
+  unfolding foundBefore before
   bad-calls-stay l zero part′ place′ ws′ short a = absurd (omega arith)
   bad-calls-stay l (suc k′) part′ place′ ws′ short a =
       calls-step k′ part′ place′ ws′ (foundCall c n) (same-call c n ws ws′ part′ f front)
@@ -108,7 +109,7 @@ pub bad-calls : (k : ℕ) (part : Bool) (place : ℕ) (ws : List ℕ) (p : ℕ)
     → length ws < k
     → callsFrom k part place ws ≡ badWord p
     → (n : ℕ) × (p ≡ place + n) × BadCalls ws n
-unfolding goOn
+unfolding foundBefore
 bad-calls zero part place ws p are l e = absurd (omega arith)
 bad-calls (suc k) part place ws p are l e = go (λ n. bad-calls k part (place + n) (drop n ws) p) (find part ws) refl
   where

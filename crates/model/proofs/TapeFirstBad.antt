@@ -7,7 +7,8 @@ use native.Mathlib.Omega.{arith}
 use native.Mathlib.Numerals.{add-one}
 use lib.ListN.{length, take, drop, replicate, length-append, length-replicate, length-drop, take-append-drop}
 use lib.Seq.{take-length, length-take-le, take-append-seam, take-take}
-use Rattle.model.specs.Receiver.{Setup, all}
+use Rattle.model.specs.Bytes.{all}
+use Rattle.model.specs.Receiver.{Setup}
 use Rattle.model.specs.Tape.{wordsOf, endsInPart, bytesOf, setupWord, wordOf, CallsRead, readCalls, badWord, callsFrom, Tape, readTape, badTape, setupLength, setupOf, withSetup, readWords, read, setupBody, setupWords, setupFits}
 use Rattle.model.proofs.ListLaws.{all-tail, all-append, all-take, all-drop, all-replicate, alike-cons, alike-shorter, alike-behind, alike-appended}
 use Rattle.model.proofs.BoolLaws.{clash}

@@ -1,23 +1,26 @@
 -- The whole-list claim: independence of the lines, the channel sum, the queue's bound and the order, for every list of calls. Assumes nothing.
-use mathlib.Core.Path.{_≡_, refl, sym, _∙_, ap}
-use mathlib.Core.Option.{Option, none, some}
+use mathlib.Core.Path.{_≡_, refl, _∙_}
+use mathlib.Core.Option.{some}
 use mathlib.Core.List.{List, [], _∷_}
-use Prim.Native.Nat.{ℕ, suc, _≤_}
+use Prim.Native.Nat.{ℕ, _≤_}
 use native.Mathlib.Omega.{arith}
 use lib.ListN.{length}
 use lib.Ieee.{Float}
 use Rattle.model.specs.Sizes.{Sizes}
 use Rattle.model.specs.Framing.{Side, A, B}
 use Rattle.model.specs.JitterBuffer.{Packet, Buffer}
-use Rattle.model.specs.Receiver.{Setup, Call, Lent, State, opened, setUp, fresh, mostCalls, run, step, channelOf, sinceReset, Line}
-use Rattle.model.specs.WholeList.{All, CallBytes, LineAlone, ChannelSound, WholeList}
+use Rattle.model.specs.Receiver.{Setup, Call, Lent, State, channelOf}
+use Rattle.model.specs.Questions.{opened, setUp, mostCalls}
+use Rattle.model.specs.Step.{run, step}
+use Rattle.model.specs.Lines.{sinceReset}
+use Rattle.model.specs.WholeList.{All, CallBytes, ChannelSound, WholeList}
 use Rattle.model.proofs.Waiting.{RisingFrom, rising-weaken}
 use Rattle.model.proofs.FillStep.{lowest}
 use Rattle.model.proofs.BufferKept.{Kept}
 use Rattle.model.proofs.Held.{StateKept}
 use Rattle.model.proofs.Reachable.{set-up-facts, set-up-kept, set-up-room, run-keeps, step-at-most}
 use Rattle.model.proofs.Lines.{lines-alike}
-use Rattle.model.proofs.ChannelSum.{Tallied, TalliedOn, run-tallied, fresh-tallied}
+use Rattle.model.proofs.ChannelSum.{TalliedOn, run-tallied, fresh-tallied}
 
 -- a rising list has none below where it rises from
 none-below : (n : ℕ) (ps : List (Packet Float)) → RisingFrom n ps → All (λ p. n ≤ p .sequence) ps

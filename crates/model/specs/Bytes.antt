@@ -1,6 +1,6 @@
 -- Numbers in bytes, and the bytes of numbers: a byte is a number below 256, a list of bytes is read from its front. Assumes nothing.
 use Prim.Native.Nat.{ℕ, zero, suc, _+_, _*_, _/_, _%_, _^_}
-use mathlib.Core.Bool.{cond}
+use mathlib.Core.Bool.{Bool, true, _&&_, cond}
 use mathlib.Core.Option.{Option, none, some}
 use mathlib.Core.List.{List, [], _∷_, _++_}
 use lib.ListN.{length, take, drop}
@@ -20,6 +20,11 @@ littleEndian (b ∷ bs) = b + 256 * littleEndian bs
 unfoldable pub bigEndianBytes : ℕ → ℕ → List ℕ
 bigEndianBytes zero n = []
 bigEndianBytes (suc k) n = n / 256 ^ k % 256 ∷ bigEndianBytes k n
+
+-- every element passes the test
+unfoldable pub all {ℓ} : {A : Type ℓ} → (A → Bool) → List A → Bool
+all f [] = true
+all f (x ∷ xs) = f x && all f xs
 
 -- the k elements from a place on
 abbrev pub part {ℓ} : {A : Type ℓ} → ℕ → ℕ → List A → List A

@@ -1,9 +1,9 @@
 -- The clock: offset and round trip of a probe, one-way delay, and the two depths. Times are unsigned 64-bit nanoseconds. Assumes nothing.
-use Prim.Native.Nat.{ℕ, zero, suc, _+_, _-_, _*_, _/_, _%_, _^_, min}
-use mathlib.Core.Bool.{Bool, true, false, _&&_, cond}
+use Prim.Native.Nat.{ℕ, zero, suc, _+_, _-_, _/_, _%_, _^_, min}
+use mathlib.Core.Bool.{Bool, _&&_, cond}
 use mathlib.Core.Option.{Option, none, some}
-use lib.IntN.{ℤ, pos, negsuc, _+ℤ_, _-ℤ_}
-use lib.Signed.{leZ, ltZ, quotZ}
+use lib.IntN.{ℤ, pos, negsuc, negℤ, _+ℤ_, _-ℤ_}
+use lib.Signed.{leZ, quotZ}
 use lib.Dec.{leb, ltb}
 use lib.Ieee.{Float}
 use Rattle.model.specs.Floats.{_+f_, _-f_, _*f_, _/f_, maxf, nearest, natf, f0, f0·01, f0·99, f0·999}
@@ -113,7 +113,7 @@ recordProbe offset roundTrip k =
 
 -- −1,000,000,000..5,000,000,000
 unfoldable pub oneWayInRange : ℤ → Bool
-oneWayInRange n = leZ (negsuc 999999999) n && leZ n (pos 5000000000)
+oneWayInRange n = leZ (negℤ (pos 1000000000)) n && leZ n (pos 5000000000)
 
 -- receive − send + offset, low 64 bits
 unfoldable pub oneWayOf : ℕ → ℕ → ℤ → ℤ
@@ -125,9 +125,9 @@ oneWayAfter new none = some new
 oneWayAfter new (some old) = some (stepToward 8 old new)
 
 -- used after the first offset
-unfoldable pub oneWayed : ℕ → ℕ → Option Timing → Option ℤ → Option ℤ
-oneWayed receive send none old = old
-oneWayed receive send (some t) old =
+unfoldable pub oneWayUpdated : ℕ → ℕ → Option Timing → Option ℤ → Option ℤ
+oneWayUpdated receive send none old = old
+oneWayUpdated receive send (some t) old =
     let new = oneWayOf receive send (t .offset) in
     cond (oneWayInRange new) (oneWayAfter new old) old
 
@@ -135,7 +135,7 @@ unfoldable pub recordOneWay : ℕ → ℕ → Clock → Clock
 recordOneWay receive send k =
     record {
       timing = k .timing;
-      oneWay = oneWayed receive send (k .timing) (k .oneWay);
+      oneWay = oneWayUpdated receive send (k .timing) (k .oneWay);
       depth = k .depth;
       counts = k .counts;
       transmitPeak = k .transmitPeak;

@@ -1,6 +1,6 @@
 -- Sequence counts of one stream. The number of incoming datagrams is apart from them, in the receiver. Assumes nothing.
-use Prim.Native.Nat.{ℕ, _+_, _-_, _%_}
-use mathlib.Core.Bool.{Bool, _&&_, cond}
+use Prim.Native.Nat.{ℕ, _+_, _-_}
+use mathlib.Core.Bool.{Bool, cond}
 use mathlib.Core.Option.{Option, none, some}
 use lib.Dec.{ltb}
 use Rattle.model.specs.Framing.{nextSequence}

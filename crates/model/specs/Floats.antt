@@ -1,7 +1,7 @@
 -- Float helpers. Every float of the receiver is an f32; each operation is IEEE 754's at binary32 and rounds once. Assumes nothing.
-use Prim.Native.Nat.{ℕ, _+_, _-_, _*_, _/_, _^_}
+use Prim.Native.Nat.{ℕ, _+_, _-_, _*_, _/_}
 use mathlib.Core.Bool.{Bool, true, false, _||_, cond}
-use lib.IntN.{ℤ, pos, negsuc}
+use lib.IntN.{ℤ, pos, negsuc, negℤ}
 use lib.Dec.{ltb}
 use lib.Ieee as Ieee
 use lib.Ieee.{Float, nan, inf, fin, binary32}
@@ -122,4 +122,4 @@ f0·999 = fromBits 0x3f7fbe77
 
 -- -35
 abbrev pub f-35 : Float
-f-35 = nearest (negsuc 34)
+f-35 = nearest (negℤ (pos 35))

@@ -2,7 +2,7 @@
 use Prim.Native.Nat.{ℕ, _+_, _%_, _^_}
 use mathlib.Core.Bool.{Bool, _&&_, cond}
 use mathlib.Core.Option.{Option, none, some}
-use mathlib.Core.List.{List, [], _∷_, _++_}
+use mathlib.Core.List.{List, _∷_, _++_}
 use lib.ListN.{length}
 use lib.Dec.{leb, ltb, eqb}
 use Rattle.model.specs.Bytes.{bigEndianAt, bigEndianBytes}
@@ -66,6 +66,10 @@ streamOf t =
     (cond (eqb t 2) (waterfall A)
     (cond (eqb t 3) (audio B)
     (cond (eqb t 4) (waterfall B) otherStream)))
+
+-- the stream of a datagram that has a header
+unfoldable pub streamIn : List ℕ → Stream
+streamIn bytes = streamOf (headerFields bytes .streamType)
 
 -- audio samples start at byte 16 in version 1 and at 24 in version 2
 unfoldable pub audioStart : ℕ → ℕ

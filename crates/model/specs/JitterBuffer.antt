@@ -182,8 +182,8 @@ module _ {X : Type 0} where
   withNext (some s) (p ∷ ps) = cond (isWaiting s (p ∷ ps)) (moved s) (concealed s)
 
   -- what a step of a fill does: it goes on while queue < target
-  unfoldable pub does : Sizes → Buffer X → Step
-  does z b = cond (ltb (length (b .queue)) (z .target)) (withNext (b .next) (b .waiting)) stopped
+  unfoldable pub stepDue : Sizes → Buffer X → Step
+  stepDue z b = cond (ltb (length (b .queue)) (z .target)) (withNext (b .next) (b .waiting)) stopped
 
   -- on a run of 3, next = earliest waiting, run 0, resyncs + 1
   unfoldable pub resynced : Buffer X → Buffer X
@@ -200,8 +200,8 @@ module _ {X : Type 0} where
       b
 
   -- one step of a fill, of which `does` says what it does
-  unfoldable pub act : X → Sizes → Step → Buffer X → Buffer X
-  act filler z (moved s) b =
+  unfoldable pub afterStep : X → Sizes → Step → Buffer X → Buffer X
+  afterStep filler z (moved s) b =
       record {
         next = some (nextSequence s);
         waiting = without s (b .waiting);
@@ -210,7 +210,7 @@ module _ {X : Type 0} where
         largest = b .largest;
         counters = b .counters;
       }
-  act filler z (concealed s) b =
+  afterStep filler z (concealed s) b =
       resynced
       (record {
         next = some (nextSequence s);
@@ -220,20 +220,20 @@ module _ {X : Type 0} where
         largest = b .largest;
         counters = countConcealed (z .packet) (b .counters);
       })
-  act filler z stopped b = b
+  afterStep filler z stopped b = b
 
   -- the buffer as it is where a step stopped, and else what the rest of the loop makes of it
-  abbrev pub orElse : Step → Buffer X → Buffer X → Buffer X
-  orElse (moved s) b rest = rest
-  orElse (concealed s) b rest = rest
-  orElse stopped b rest = b
+  abbrev pub unlessStopped : Step → Buffer X → Buffer X → Buffer X
+  unlessStopped (moved s) b rest = rest
+  unlessStopped (concealed s) b rest = rest
+  unlessStopped stopped b rest = b
 
   -- at most so many steps of a fill, until one stops
   unfoldable pub fillSteps : X → Sizes → ℕ → Buffer X → Buffer X
   fillSteps filler z zero b = b
   fillSteps filler z (suc n) b =
-      let rest = fillSteps filler z n (act filler z (does z b) b) in
-      orElse (does z b) b rest
+      let rest = fillSteps filler z n (afterStep filler z (stepDue z b) b) in
+      unlessStopped (stepDue z b) b rest
 
   -- fill: each step that does not stop queues a packet, so no more than target of them are needed
   unfoldable pub fill : X → Sizes → Buffer X → Buffer X
@@ -285,20 +285,20 @@ module _ {X : Type 0} where
       }
 
   -- a push that is stored: then the start, the fill, and at the end the largest amount
-  unfoldable pub settle : X → Sizes → Packet X → Buffer X → Buffer X
-  settle filler z new b = noteLargest z (fill filler z (start z (stored new b)))
+  unfoldable pub storedAndFilled : X → Sizes → Packet X → Buffer X → Buffer X
+  storedAndFilled filler z new b = noteLargest z (fill filler z (start z (stored new b)))
 
   -- a received packet, in the order of the tests: wrong count, late, no room, stored
-  unfoldable pub judged : Bool → X → Sizes → Packet X → Buffer X → Buffer X
-  judged room filler z new b =
+  unfoldable pub storedOrCounted : Bool → X → Sizes → Packet X → Buffer X → Buffer X
+  storedOrCounted room filler z new b =
       cond (eqb (length (new .samples)) (z .packet))
       (cond (isLate (new .sequence) (b .next)) (counting countLate b)
-      (cond room (settle filler z new b) (counting countOverflow b)))
+      (cond room (storedAndFilled filler z new b) (counting countOverflow b)))
       (counting countInvalidSize b)
 
   -- push: received + 1, then the tests
   unfoldable pub push : X → Sizes → Packet X → Buffer X → Buffer X
-  push filler z new b = judged (hasRoom z b) filler z new (counting countReceived b)
+  push filler z new b = storedOrCounted (hasRoom z b) filler z new (counting countReceived b)
 
   -- ---- play
 

@@ -40,23 +40,23 @@ dbToU8 db top range =
 unfoldable pub rgb : Float → Float → Float → ℕ
 rgb r g b = asUnsigned 32 r * 65536 + asUnsigned 32 g * 256 + asUnsigned 32 b
 
--- black to blue, blue to cyan, cyan to yellow, yellow to red, a quarter of the levels each
+-- black to blue, blue to cyan, cyan to yellow, yellow to red, a quarter of the levels each, by how far a level lies in its quarter
 unfoldable pub colorMap : ℕ → ℕ
 colorMap v =
     let x = natf v /f natf 255 in
     let full = natf 255 in
-    let black = x /f f0·25 in
-    let blue = (x -f f0·25) /f f0·25 in
-    let cyan = (x -f f0·5) /f f0·25 in
-    let yellow = (x -f f0·75) /f f0·25 in
-    cond (Ieee.lt x f0·25) (rgb f0 f0 (full *f black))
-    (cond (Ieee.lt x f0·5) (rgb f0 (full *f blue) full)
-    (cond (Ieee.lt x f0·75) (rgb (full *f cyan) full (full *f (f1 -f cyan)))
-    (rgb full (full *f (f1 -f yellow)) f0)))
+    let inFirst = x /f f0·25 in
+    let inSecond = (x -f f0·25) /f f0·25 in
+    let inThird = (x -f f0·5) /f f0·25 in
+    let inFourth = (x -f f0·75) /f f0·25 in
+    cond (Ieee.lt x f0·25) (rgb f0 f0 (full *f inFirst))
+    (cond (Ieee.lt x f0·5) (rgb f0 (full *f inSecond) full)
+    (cond (Ieee.lt x f0·75) (rgb (full *f inThird) full (full *f (f1 -f inThird)))
+    (rgb full (full *f (f1 -f inFourth)) f0)))
 
 -- ---- drawing
 
--- 0, 1, .., n − 1, counted from i
+-- n numbers from i on: i, i + 1, .., i + n − 1
 unfoldable pub countFrom : ℕ → ℕ → List ℕ
 countFrom i zero = []
 countFrom i (suc n) = i ∷ countFrom (suc i) n

@@ -1,6 +1,6 @@
 -- Replay: a tape in, lines of text out. Text is a list of ASCII codes; words of a line stand a space apart. Assumes nothing.
-use Prim.Native.Nat.{ℕ, zero, suc, _+_, _*_, _/_, _%_, _^_}
-use mathlib.Core.Bool.{Bool, true, false, cond}
+use Prim.Native.Nat.{ℕ, zero, suc, _+_, _/_, _%_, _^_}
+use mathlib.Core.Bool.{cond}
 use mathlib.Core.Option.{Option, none, some}
 use mathlib.Core.List.{List, [], _∷_, _++_, map}
 use lib.ListN.{length}
@@ -8,12 +8,13 @@ use lib.IntN.{ℤ, pos, negsuc}
 use lib.Dec.{leb, ltb}
 use lib.Ieee.{Float}
 use Rattle.model.specs.Floats.{toBits}
-use Rattle.model.specs.Framing.{Side, A, B, Stream, audio, waterfall, otherStream}
+use Rattle.model.specs.Framing.{Side, A, B, Stream, audio, waterfall, otherStream, streamIn}
 use Rattle.model.specs.JitterBuffer.{Counters, Played}
 use Rattle.model.specs.Clock as Clock
-use Rattle.model.specs.Clock.{Timing}
-use Rattle.model.specs.Receiver.{Setup, Lent, Call, datagram, play, reset, set, probe, oneWay, depth, transmitDepth, Answer, refused, accepted, played, row, Event, State, Opened, opened, notOpened, setUp, streamIn, run}
-use Rattle.model.specs.Tape.{Tape, TapeRead, readTape, badTape, read}
+use Rattle.model.specs.Receiver.{Lent, Call, datagram, play, reset, set, probe, oneWay, depth, transmitDepth, Answer, refused, accepted, played, row, State}
+use Rattle.model.specs.Questions.{Opened, opened, notOpened, setUp}
+use Rattle.model.specs.Step.{Event, run}
+use Rattle.model.specs.Tape.{TapeRead, readTape, badTape, read}
 
 -- ---- numbers in text
 

@@ -1,10 +1,10 @@
 -- Row reassembly: a waterfall row comes in chunks, each with the row's number, its total of bins and the first bin. Assumes nothing.
 use Prim.Native.Nat.{ℕ, _+_, _%_}
-use mathlib.Core.Bool.{Bool, true, false, _&&_, cond}
+use mathlib.Core.Bool.{Bool, false, _&&_, cond}
 use mathlib.Core.Option.{Option, none, some}
 use mathlib.Core.List.{List, [], _∷_}
 use lib.ListN.{length, drop, replicate}
-use lib.Dec.{leb, ltb, eqb}
+use lib.Dec.{leb, eqb}
 use lib.Ieee.{Float}
 use Rattle.model.specs.Bytes.{bigEndianAt, littleEndian, placed}
 use Rattle.model.specs.Floats.{finite, fromBits, f0}

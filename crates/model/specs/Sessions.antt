@@ -1,25 +1,19 @@
 -- The sessions that document 01 works by hand, run on the definitions. Assumes nothing.
 use mathlib.Core.Path.{_≡_, refl}
-use Prim.Native.Nat.{ℕ, _+_, _-_, _*_, _^_}
-use mathlib.Core.Bool.{Bool, true, false}
+use Prim.Native.Nat.{ℕ, _-_, _*_, _^_}
+use mathlib.Core.Bool.{true}
 use mathlib.Core.Option.{Option, none, some}
-use mathlib.Core.List.{List, [], _∷_, _++_, map, reverse, zipWith}
-use lib.IntN.{ℤ, pos, negsuc}
+use mathlib.Core.List.{List, [], _∷_, _++_, map, reverse}
+use lib.IntN.{ℤ, pos, negℤ}
 use lib.Ieee as Ieee
 use lib.Ieee.{Float}
-use lib.Count as Count
 use lib.ListN.{replicate}
-use Rattle.model.specs.Bytes as Bytes
 use Rattle.model.specs.Bytes.{bigEndianBytes}
 use Rattle.model.specs.Floats as Floats
 use Rattle.model.specs.Floats.{f0, f1, natf, fromBits}
-use Rattle.model.specs.Sizes as Sizes
 use Rattle.model.specs.Sizes.{Sizes}
-use Rattle.model.specs.Framing as Framing
 use Rattle.model.specs.Framing.{A, B}
-use Rattle.model.specs.Counts as Counts
 use Rattle.model.specs.Counts.{StreamCounts, counted}
-use Rattle.model.specs.Samples as Samples
 use Rattle.model.specs.JitterBuffer as Jitter
 use Rattle.model.specs.JitterBuffer.{Buffer, Counters, Played, freshBuffer}
 use Rattle.model.specs.Row as Row
@@ -29,17 +23,13 @@ use Rattle.model.specs.Picture as Picture
 use Rattle.model.specs.Picture.{windowStart, windowEnd, binAt, countFrom}
 use Rattle.model.specs.Clock as Clock
 use Rattle.model.specs.Clock.{Timing, probeOffset, probeRoundTrip, probed}
-use Rattle.model.specs.Receiver as Receiver
-use Rattle.model.specs.Receiver.{Setup, Lent, Call, Answer, Event, Run, State, datagram, play, row, played, fresh, opened, setUp, run}
-use Rattle.model.specs.Replay as Replay
+use Rattle.model.specs.Receiver.{Setup, Call, Answer, datagram, play, row, played, fresh}
+use Rattle.model.specs.Questions.{opened, setUp}
+use Rattle.model.specs.Step.{Event, Run, run}
 use Rattle.model.specs.Replay.{replay, replayAreas}
-use Rattle.model.specs.Tape as Tape
+use Rattle.model.specs.Text.{ascii, lines}
+use Rattle.model.specs.Computes.{computes}
 use Rattle.model.specs.Tape.{Tape, readTape, written, read, write, bytesOf}
-
--- Named on an `unfolding` line, it opens every definition that the sessions run.
-computes : Unit {0}
-unfolding Ieee.span Ieee.climb Ieee.size Ieee.odd Ieee.units Ieee.round Ieee.neg Ieee.sum Ieee.add Ieee.sub Ieee.mul Ieee.div Ieee.lt Ieee.eq Ieee.le Ieee.ofInt Ieee.toUnsigned Ieee.isNan Ieee.ofFields Ieee.ofBits Ieee.toBits Count.trailingZeros zipWith Bytes.bigEndian Bytes.littleEndian Bytes.bigEndianBytes Bytes.placed Bytes.writtenInto Floats.finite Floats.roundHalfAway Floats.maxf Floats.clampf Floats.signed16 Floats.sample Sizes.sizesAllowed Sizes.mostWaiting Sizes.floatSection Sizes.wordSection Sizes.floatArea Sizes.wordArea Framing.headerFields Framing.parseHeader Framing.validHeader Framing.nextSequence Framing.streamOf Framing.audioStart Framing.audioSendTime Framing.timeHeader Framing.buildRequest Framing.buildResponse Framing.timePacket Framing.parseRequest Framing.parseResponse Counts.isBelow Counts.droppedBy Counts.lateBy Counts.counted Samples.audioPayload Samples.holdsSamples Samples.samplesOf Jitter.countReceived Jitter.countInserted Jitter.countConcealed Jitter.countLate Jitter.countOverflow Jitter.countInvalidSize Jitter.countResync Jitter.countShort Jitter.isLate Jitter.tooLong Jitter.dropCount Jitter.reset Jitter.isStarted Jitter.buffered Jitter.counting Jitter.earliest Jitter.isWaiting Jitter.samplesAt Jitter.without Jitter.insert Jitter.withNext Jitter.does Jitter.resynced Jitter.act Jitter.fillSteps Jitter.fill Jitter.hasRoom Jitter.stored Jitter.startAt Jitter.start Jitter.noteLargest Jitter.settle Jitter.judged Jitter.push Jitter.handOut Jitter.playFillers Jitter.playFilled Jitter.play Row.floatsOf Row.chunkTotal Row.chunkFields Row.wellFormed Row.openRow Row.rowFor Row.finitePrefix Row.complete Row.storeAll Row.storeSome Row.storeChunk Row.pushChunk Scaling.averaged Scaling.spectrumAfter Scaling.finiteValues Scaling.insertRising Scaling.rising Scaling.placeOf Scaling.valueAt Scaling.rowFloor Scaling.rowTop Scaling.estimated Scaling.adaptiveTop Scaling.adaptiveRange Scaling.estimatesToward Scaling.displayAfter Scaling.shownTop Scaling.shownRange Scaling.smoothingWeight Scaling.smoothed Scaling.smoothingAfter Picture.visibleBins Picture.windowStart Picture.windowEnd Picture.binAt Picture.dbToU8 Picture.rgb Picture.colorMap Picture.countFrom Picture.pixel Picture.drawnRow Picture.pictureAfter Clock.bits64 Clock.signed64 Clock.low64 Clock.probeOffset Clock.probeRoundTrip Clock.stepToward Clock.leastAfter Clock.passesGate Clock.timingAfter Clock.probed Clock.recordProbe Clock.oneWayInRange Clock.oneWayOf Clock.oneWayAfter Clock.oneWayed Clock.recordOneWay Clock.samplesMs Clock.depthAfter Clock.recordDepth Clock.recordTransmit Clock.inMs Clock.offsetMs Clock.roundTripMs Clock.oneWayMs Clock.depthMs Clock.depthPeakMs Receiver.freshDisplay Receiver.freshChannel Receiver.fresh Receiver.firstNo Receiver.areasLong Receiver.finiteBits Receiver.estimatesFinite Receiver.settingsFinite Receiver.setupQuestions Receiver.openedUnless Receiver.setUp Receiver.all Receiver.sequences Receiver.strictlyRising Receiver.startHeld Receiver.countersHeld Receiver.bufferHeld Receiver.rowHeld Receiver.channelHeld Receiver.offsetAllowed Receiver.timingHeld Receiver.oneWayHeld Receiver.clockHeld Receiver.streamHeld Receiver.held Receiver.totalAllowed Receiver.streamAllowed Receiver.streamIn Receiver.probeAllowed Receiver.depthAllowed Receiver.ownQuestions Receiver.questions Receiver.withBuffer Receiver.playChannel Receiver.resetChannel Receiver.setDisplay Receiver.setChannel Receiver.audioInto Receiver.shownRow Receiver.chunkResult Receiver.waterfallInto Receiver.onSide Receiver.onClock Receiver.countsAfter Receiver.countHeader Receiver.passedOver Receiver.dispatch Receiver.takeDatagram Receiver.accept Receiver.decide Receiver.step Receiver.run Receiver.streamLine Receiver.lineOf Receiver.onlyCalls Receiver.onlyEvents Receiver.lineState Receiver.ofPlay Receiver.isAccepted Receiver.tally Receiver.tallyFrom Receiver.sinceReset Tape.wordsOf Tape.endsInPart Tape.bytesOf Tape.wordsFor Tape.padding Tape.twoWords Tape.wide Tape.sideBit Tape.adaptiveBit Tape.headWord Tape.wordOf Tape.sideIn Tape.adaptiveIn Tape.clockHead Tape.named Tape.wordIn Tape.bodyLength Tape.headOf Tape.bodyOf Tape.callWords Tape.callOf Tape.paddedWithZeros Tape.foundBody Tape.foundWord Tape.find Tape.before Tape.goOn Tape.callsFrom Tape.setupOf Tape.withSetup Tape.afterFirst Tape.readWords Tape.read Tape.callFits Tape.setupBody Tape.setupWords Tape.setupFits Tape.behind Tape.writeCalls Tape.writeWords Tape.inBytes Tape.write Tape.putResult Tape.putWords Tape.putSetup Tape.putCall Tape.putEnd Replay.digitsBefore Replay.decimal Replay.signedDecimal Replay.hexDigit Replay.hexDigits Replay.hexBits Replay.rest Replay.line Replay.sideLetter Replay.playLine Replay.rowLine Replay.refusedLine Replay.streamSide Replay.sideOf Replay.answerLine Replay.eventLines Replay.channelLine Replay.incomingLine Replay.orDash Replay.clockLine Replay.closingLines Replay.sessionLines Replay.badTapeLine Replay.tapeLines Replay.replay
-computes = tt
 
 -- ---- the jitter buffer: samples are numbers here, and the filler is 0
 
@@ -93,14 +83,18 @@ counted-as received inserted concealed resyncs filled =
 lastWas : ℕ → StreamCounts
 lastWas s = record { packets = 1; dropped = 0; late = 0; last = some s }
 
--- a chunk's payload: row number 7, total, first bin, values as bit patterns
-chunk : ℕ → ℕ → List ℕ → List ℕ
-chunk total first values =
-    bigEndianBytes 2 7 ++ (bigEndianBytes 2 total ++ (bigEndianBytes 2 first ++ littleEndianWords values))
+-- a chunk's payload: row number, total, first bin, values as bit patterns
+chunkOf : ℕ → ℕ → ℕ → List ℕ → List ℕ
+chunkOf number total first values =
+    bigEndianBytes 2 number ++ (bigEndianBytes 2 total ++ (bigEndianBytes 2 first ++ littleEndianWords values))
   where
     littleEndianWords : List ℕ → List ℕ
     littleEndianWords [] = []
     littleEndianWords (v ∷ vs) = reverse (bigEndianBytes 4 v) ++ littleEndianWords vs
+
+-- one of row 7
+chunk : ℕ → ℕ → List ℕ → List ℕ
+chunk total first values = chunkOf 7 total first values
 
 -- what each of the payloads completes, in turn
 completed : List (List ℕ) → Option Row.Row → List (Option (List Float))
@@ -167,7 +161,7 @@ pub record Starred : Type 0 where
       × (windowEnd 5 (natf 2) ≡ 4)
       × (map (binAt 4 5 (natf 2)) (countFrom 0 4) ≡ 1 ∷ 1 ∷ 2 ∷ 3 ∷ [])
   -- times 10, 5, 5, 11: offset −5, round trip 1
-  times : (probeOffset 10 5 5 11 ≡ negsuc 4) × (probeRoundTrip 10 5 5 11 ≡ pos 1)
+  times : (probeOffset 10 5 5 11 ≡ negℤ (pos 5)) × (probeRoundTrip 10 5 5 11 ≡ pos 1)
   -- probes (100, 64), (90, 96), (0, 200): offsets 100, 98, 98
   probes : offsets (probe′ 100 64 ∷ probe′ 90 96 ∷ probe′ 0 200 ∷ []) none
       ≡ some (pos 100) ∷ some (pos 98) ∷ some (pos 98) ∷ []
@@ -177,7 +171,7 @@ pub record Starred : Type 0 where
   probes-past-gate : offsets (probe′ 100 64 ∷ probe′ 90 98 ∷ []) none ≡ some (pos 100) ∷ some (pos 100) ∷ []
 
 pub starred : Starred
-unfolding computes jitterSizes pushed playing session answer counted-as lastWas chunk completed one-two probe′ offsets
+unfolding computes jitterSizes pushed playing session answer counted-as lastWas chunkOf chunk completed one-two probe′ offsets
 starred =
     record {
       in-order = refl;
@@ -230,20 +224,16 @@ answers : List Event → List Answer
 answers [] = []
 answers (e ∷ es) = e .answer ∷ answers es
 
--- what replay prints of it:
---   P A 2 0 0 3f800000 bf800000
---   A 1 1 0 0 0 0 0 0
---   B 0 0 0 0 0 0 0 0
---   I 1 1 0 0 0 0 0
---   C - - -
+-- what replay prints of it
 printed : List ℕ
 printed =
-    80 ∷ 32 ∷ 65 ∷ 32 ∷ 50 ∷ 32 ∷ 48 ∷ 32 ∷ 48 ∷ 32 ∷ 51 ∷ 102 ∷ 56 ∷ 48 ∷ 48 ∷ 48 ∷ 48 ∷ 48 ∷ 32 ∷ 98 ∷ 102 ∷ 56 ∷ 48 ∷ 48 ∷ 48 ∷ 48 ∷ 48 ∷ 10
-    ∷ 65 ∷ 32 ∷ 49 ∷ 32 ∷ 49 ∷ 32 ∷ 48 ∷ 32 ∷ 48 ∷ 32 ∷ 48 ∷ 32 ∷ 48 ∷ 32 ∷ 48 ∷ 32 ∷ 48 ∷ 10
-    ∷ 66 ∷ 32 ∷ 48 ∷ 32 ∷ 48 ∷ 32 ∷ 48 ∷ 32 ∷ 48 ∷ 32 ∷ 48 ∷ 32 ∷ 48 ∷ 32 ∷ 48 ∷ 32 ∷ 48 ∷ 10
-    ∷ 73 ∷ 32 ∷ 49 ∷ 32 ∷ 49 ∷ 32 ∷ 48 ∷ 32 ∷ 48 ∷ 32 ∷ 48 ∷ 32 ∷ 48 ∷ 32 ∷ 48 ∷ 10
-    ∷ 67 ∷ 32 ∷ 45 ∷ 32 ∷ 45 ∷ 32 ∷ 45 ∷ 10
-    ∷ []
+    lines
+    ("P A 2 0 0 3f800000 bf800000"
+    ∷ "A 1 1 0 0 0 0 0 0"
+    ∷ "B 0 0 0 0 0 0 0 0"
+    ∷ "I 1 1 0 0 0 0 0"
+    ∷ "C - - -"
+    ∷ [])
 
 pub record TapeSession : Type 0 where
   -- it decodes to its setup and two calls
@@ -267,12 +257,12 @@ pub record TapeSession : Type 0 where
   -- and this is what replay prints
   prints : replay (bytesOf tapeWords) ≡ printed
   -- the empty tape, a word behind the end, and a setup with packet 0: only the X line
-  prints-bad : (replay [] ≡ 88 ∷ 32 ∷ 49 ∷ 49 ∷ 32 ∷ 48 ∷ 10 ∷ [])
-      × (replay (bytesOf (tapeWords ++ (0 ∷ []))) ≡ 88 ∷ 32 ∷ 49 ∷ 49 ∷ 32 ∷ 50 ∷ 49 ∷ 10 ∷ [])
-      × (replay (bytesOf (0xE0000000 ∷ replicate 12 0 ++ (0 ∷ []))) ≡ 88 ∷ 32 ∷ 49 ∷ 10 ∷ [])
+  prints-bad : (replay [] ≡ lines ("X 11 0" ∷ []))
+      × (replay (bytesOf (tapeWords ++ (0 ∷ []))) ≡ lines ("X 11 21" ∷ []))
+      × (replay (bytesOf (0xE0000000 ∷ replicate 12 0 ++ (0 ∷ []))) ≡ lines ("X 1" ∷ []))
 
 pub tape-session : TapeSession
-unfolding computes counted-as tapeWords tapeSetup tapeDatagram tapeCalls tape tapeRun answers printed
+unfolding computes counted-as tapeWords tapeSetup tapeDatagram tapeCalls tape tapeRun answers printed ascii lines
 tape-session =
     record {
       decodes = refl;
@@ -299,6 +289,15 @@ minusHuge = fromBits 0xff61b1e6
 half : Float
 half = fromBits 0x3f000000
 
+-- 2, 4, 4: sequences 5 and 6 fill the buffer, and 7 is next; then so many samples of a sequence
+wrongPush : ℕ → ℕ → Buffer ℕ
+wrongPush s n =
+    Jitter.push 0 (jitterSizes 2 4 4) (record { sequence = s; samples = countFrom 0 n }) (pushed (jitterSizes 2 4 4) (5 ∷ 6 ∷ []) freshBuffer)
+
+tested : ℕ → ℕ → ℕ → Counters
+tested late overflow invalidSize =
+    record { received = 3; inserted = 2; concealed = 0; late = late; overflow = overflow; invalidSize = invalidSize; resyncs = 0; filled = 0 }
+
 -- a smoothing buffer of one bin after each of the rows
 smoothing : List Float → List Float → List (List Float)
 smoothing [] old = []
@@ -313,12 +312,15 @@ pub record Edges : Type 0 where
       (chunk 3 0 (0x3f800000 ∷ 0x7f800000 ∷ 0x40000000 ∷ []) ∷ chunk 3 1 one-two ∷ chunk 3 2 (0x40000000 ∷ []) ∷ [])
       none
       ≡ none ∷ none ∷ some (natf 1 ∷ natf 1 ∷ natf 2 ∷ []) ∷ []
-  -- a done row ignores a chunk; a new number or total opens a row; a chunk of no values counts none
+  -- a done row ignores a chunk; a new total opens a row; a chunk of no values counts none
   done-ignored : completed
       (chunk 2 0 one-two ∷ chunk 2 0 one-two ∷ chunk 1 0 (0x40000000 ∷ []) ∷ chunk 2 0 [] ∷ chunk 2 1 one-two ∷ [])
       none
       ≡ some (natf 1 ∷ natf 2 ∷ []) ∷ none ∷ some (natf 2 ∷ []) ∷ none ∷ none ∷ []
-  -- a full buffer counts a duplicate as overflow; below next is late; a wrong count is invalid size
+  -- a new row number opens a zeroed row: the first bin of row 7 is not row 8's
+  new-number : completed (chunkOf 7 2 0 (0x3f800000 ∷ []) ∷ chunkOf 8 2 1 (0x40000000 ∷ []) ∷ chunkOf 8 2 1 (0x40000000 ∷ []) ∷ []) none
+      ≡ none ∷ none ∷ some (f0 ∷ natf 2 ∷ []) ∷ []
+  -- a full buffer counts a duplicate as overflow; below next is late
   refused-packets : pushed (jitterSizes 2 4 4) (5 ∷ 5 ∷ 9 ∷ 4 ∷ 9 ∷ []) freshBuffer .counters
       ≡ record {
         received = 5;
@@ -330,6 +332,9 @@ pub record Edges : Type 0 where
         resyncs = 0;
         filled = 2;
       }
+  -- the first test that fails counts: of a full buffer whose next is 7, 3 samples of sequence 4 are of invalid size, 2 of them late, and 2 of
+  -- sequence 9 overflow
+  tests-in-order : (wrongPush 4 3 .counters ≡ tested 0 0 1) × (wrongPush 4 2 .counters ≡ tested 1 0 0) × (wrongPush 9 2 .counters ≡ tested 0 1 0)
   -- the sequence wraps: 4,294,967,295 is played, then 0
   wraps : session (jitterSizes 2 2 8) (4294967295 ∷ 0 ∷ []) (2 ∷ 2 ∷ [])
       ≡ record {
@@ -354,7 +359,7 @@ pub record Edges : Type 0 where
   rounded : map Floats.roundHalfAway (fromBits 0x40200000 ∷ fromBits 0xc0200000 ∷ fromBits 0x3effffff ∷ fromBits 0x3f000000 ∷ [])
       ≡ natf 3 ∷ fromBits 0xc0400000 ∷ f0 ∷ f1 ∷ []
   -- the low 64 bits are kept: a probe whose offset is −2
-  wide-probe : (probeOffset 0 (2 ^ 64 - 1) (2 ^ 64 - 1) 1 ≡ negsuc 1) × (probeRoundTrip 0 (2 ^ 64 - 1) (2 ^ 64 - 1) 1 ≡ pos 1)
+  wide-probe : (probeOffset 0 (2 ^ 64 - 1) (2 ^ 64 - 1) 1 ≡ negℤ (pos 2)) × (probeRoundTrip 0 (2 ^ 64 - 1) (2 ^ 64 - 1) 1 ≡ pos 1)
   -- a round trip is stored before the gate
   stored-before-gate : probed (pos 0) (pos 200) (probed (pos 100) (pos 64) none)
       ≡ some (record { offset = pos 100; roundTrip = 200; least = 65 })
@@ -363,13 +368,15 @@ pub record Edges : Type 0 where
       ≡ 0 ∷ 0x0000fc ∷ 0x0001ff ∷ 0x00fdff ∷ 0xfeff00 ∷ 0xff0000 ∷ []
 
 pub edges : Edges
-unfolding computes jitterSizes pushed playing session answer counted-as chunk completed one-two huge minusHuge half smoothing
+unfolding computes jitterSizes pushed playing session answer counted-as chunkOf chunk completed one-two huge minusHuge half wrongPush tested smoothing
 edges =
     record {
       not-early = refl;
       not-finite = refl;
       done-ignored = refl;
+      new-number = refl;
       refused-packets = refl;
+      tests-in-order = (refl, refl, refl);
       wraps = refl;
       play-of-none = refl;
       level-zeros = (refl, refl);

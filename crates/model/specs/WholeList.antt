@@ -10,7 +10,10 @@ use lib.Ieee.{Float}
 use Rattle.model.specs.Framing.{Side}
 use Rattle.model.specs.Sizes.{Sizes}
 use Rattle.model.specs.JitterBuffer.{Buffer}
-use Rattle.model.specs.Receiver.{Call, datagram, play, reset, set, probe, oneWay, depth, transmitDepth, Lent, State, Event, all, run, Line, onlyCalls, onlyEvents, lineState, channelOf, sinceReset}
+use Rattle.model.specs.Bytes.{all}
+use Rattle.model.specs.Receiver.{Call, datagram, play, reset, set, probe, oneWay, depth, transmitDepth, Lent, State, channelOf}
+use Rattle.model.specs.Step.{Event, run}
+use Rattle.model.specs.Lines.{Line, onlyCalls, onlyEvents, lineState, sinceReset}
 
 -- every element has the property
 abbrev pub All {ℓ} : {A : Type ℓ} → (A → Type 0) → List A → Type 0

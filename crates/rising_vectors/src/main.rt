@@ -6,7 +6,7 @@ ghost use mathlib.Core.Path.{_≡_};
 ghost use Prim.Native.Nat.{_<_};
 ghost use lib.ListN.{length};
 ghost use Rattle.model.specs.Floats.{finite};
-ghost use Rattle.model.specs.Receiver.{all};
+ghost use Rattle.model.specs.Bytes.{all};
 
 struct Tally {
     seen: u64,

@@ -1,20 +1,8 @@
--- The model's sizes that the struct holds, and where the parts of a channel's sections lie. Assumes nothing.
+-- Where the parts of a channel's sections lie. Assumes nothing.
 use Prim.Native.Nat.{ℕ, _+_, _*_}
 use Rattle.model.specs.Sizes as Model
 use Rattle.model.specs.Sizes.{mostWaiting}
-use Rattle.sizes.specs.declared.Sizes.{Sizes}
 use Rattle.sizes.specs.declared.Offsets.{Offsets}
-
-abbrev pub sizesOf : Sizes → Model.Sizes
-sizesOf z =
-    record {
-      packet = z .packet;
-      target = z .target;
-      max = z .max;
-      bins = z .bins;
-      width = z .width;
-      height = z .height;
-    }
 
 -- the waiting samples start a section of the f32 area, and the waiting sequences one of the u32 area
 unfoldable pub queueAt : Model.Sizes → ℕ

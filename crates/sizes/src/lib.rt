@@ -1,18 +1,11 @@
-// The six sizes of a receiver by value, and what follows from them: how many packets may wait, how
+// What follows from the six sizes of a receiver: whether they are allowed, how many packets may wait, how
 // long the lent areas must be, and where the parts of a channel's sections lie.
 ghost use mathlib.Core.Path.{_≡_};
 ghost use mathlib.Core.Bool.{true};
 ghost use Rattle.model.specs.Sizes.{between, sizesAllowed, mostWaiting, floatSection, wordSection, floatArea, wordArea};
-ghost use Rattle.sizes.specs.View.{sizesOf, offsetsOf};
-
-pub struct Sizes {
-    pub packet: usize,
-    pub target: usize,
-    pub max: usize,
-    pub bins: usize,
-    pub width: usize,
-    pub height: usize,
-}
+ghost use Rattle.calls.specs.Views.{sizesOf};
+ghost use Rattle.sizes.specs.View.{offsetsOf};
+use calls::Sizes;
 
 // Where the parts of a channel's sections start. In the f32 section the waiting samples are at 0; in
 // the u32 section the waiting sequences are.

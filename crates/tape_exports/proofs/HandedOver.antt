@@ -7,7 +7,8 @@ use native.Mathlib.Omega.{arith}
 use lib.ListN.{length, set}
 use lib.Seq.{sets}
 use Rattle.model.specs.Receiver as Receiver
-use Rattle.model.specs.Receiver.{Call, all}
+use Rattle.model.specs.Bytes.{all}
+use Rattle.model.specs.Receiver.{Call}
 use Rattle.model.specs.Tape.{read, putCall, putSetup, putEnd}
 use Rattle.model.proofs.BytesLaws.{isByte}
 use Rattle.tape.specs.Answers.{Wrote, verdictOf, setupAnswer}

@@ -7,7 +7,8 @@ use native.Mathlib.Omega.{arith}
 use lib.ListN.{length}
 use lib.Dec.{leb}
 use borrow.Author.Tests.{leb-true}
-use Rattle.model.specs.Receiver.{Call, Setup, all}
+use Rattle.model.specs.Bytes.{all}
+use Rattle.model.specs.Receiver.{Call, Setup}
 use Rattle.model.specs.Tape.{TapeRead, readTape, badTape, read, wordOf, endWord, callWords, callFits, setupWords, setupFits, putWords, putCall, putSetup, putEnd, putTooLarge}
 use Rattle.model.proofs.BoolLaws.{by-test, clash}
 use Rattle.model.proofs.BytesLaws.{isByte, length-words-of}

@@ -4,8 +4,8 @@ use mathlib.Core.Bool.{Bool, true, false, cond}
 use mathlib.Core.List.{List, [], _∷_, _++_}
 use lib.ListN.{length, take, drop}
 use lib.Dec.{eqb}
-use Rattle.tape.specs.declared.Side.{Side}
-use Rattle.tape.specs.declared.Side.the-variants.{A, B}
+use Rattle.calls.specs.declared.Side.{Side}
+use Rattle.calls.specs.declared.Side.the-variants.{A, B}
 use Rattle.tape.specs.declared.Setup.{Setup}
 use Rattle.tape.specs.declared.SetupRead.{SetupRead}
 use Rattle.tape.specs.declared.SetupRead.the-variants as setupRead
@@ -51,12 +51,12 @@ verdictNumber (checked.Bad place) = place
 -- the six sizes, then top, floor and range of A and of B
 abbrev pub setupNumbers : Setup → List ℕ
 setupNumbers x =
-    x .packet
-    ∷ x .target
-    ∷ x .max
-    ∷ x .bins
-    ∷ x .width
-    ∷ x .height
+    x .sizes .packet
+    ∷ x .sizes .target
+    ∷ x .sizes .max
+    ∷ x .sizes .bins
+    ∷ x .sizes .width
+    ∷ x .sizes .height
     ∷ x .a .top
     ∷ x .a .floor
     ∷ x .a .range

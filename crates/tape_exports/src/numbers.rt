@@ -6,12 +6,12 @@ ghost use lib.ListN.{set};
 ghost use lib.Seq.{sets};
 ghost use Rattle.tape.specs.declared.Found.the-variants as found;
 ghost use Rattle.tape_exports.specs.Numbers.{sideNumber, flagNumber, setupNumbers, foundNumbers};
-use tape::DepthCounts;
-use tape::Estimates;
+use calls::DepthCounts;
+use calls::Estimates;
+use calls::Settings;
+use calls::Side;
 use tape::Found;
-use tape::Settings;
 use tape::Setup;
-use tape::Side;
 
 // Stores a number where the slice has the place.
 fn put(out: &mut [u64], at: usize, n: u64)
@@ -129,15 +129,16 @@ fn put_estimates(out: &mut [u64], at: usize, e: Estimates)
 pub fn put_setup(out: &mut [u64], x: Setup)
     ensures { λ _. ⌜ now (out .exit) ≡ sets (now (out .entry)) 0 (setupNumbers x) ⌝ }
 {
+    let z = x.sizes;
     put_four(
         out,
-        x.packet as u64,
-        x.target as u64,
-        x.max as u64,
-        x.bins as u64,
+        z.packet as u64,
+        z.target as u64,
+        z.max as u64,
+        z.bins as u64,
     );
-    put(out, 4, x.width as u64);
-    put(out, 5, x.height as u64);
+    put(out, 4, z.width as u64);
+    put(out, 5, z.height as u64);
     put_estimates(out, 6, x.a);
     put_estimates(out, 9, x.b);
 }

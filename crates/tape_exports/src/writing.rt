@@ -2,15 +2,16 @@
 ghost use mathlib.Core.Path.{_≡_};
 ghost use Rattle.model.specs.Receiver.{datagram, play, reset, set, probe, oneWay, depth, transmitDepth};
 ghost use Rattle.model.specs.Tape.{putSetup, putCall, putEnd};
-ghost use Rattle.tape.specs.Answers.{modelSide, modelSettings, modelCounts, modelSetup};
+ghost use Rattle.calls.specs.Views.{modelSide, modelSettings, modelCounts};
+ghost use Rattle.tape.specs.Answers.{modelSetup};
 ghost use Rattle.tape_exports.specs.Numbers.{sideNamed, putNumber};
 ghost use Rattle.tape_exports.specs.Promises.{PutHanded};
-use tape::DepthCounts;
-use tape::Estimates;
+use calls::DepthCounts;
+use calls::Estimates;
+use calls::Settings;
+use calls::Side;
+use calls::Sizes;
 use tape::Put;
-use tape::Settings;
-use tape::Side;
-use tape::Sizes;
 use tape::writer;
 
 // 0 is channel A and any other number B.

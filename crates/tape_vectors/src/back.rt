@@ -7,12 +7,12 @@ use crate::sample::after;
 use crate::sample::every_call;
 use crate::sample::settings;
 use crate::sample::small;
-use tape::DepthCounts;
+use calls::DepthCounts;
+use calls::Settings;
+use calls::Side;
 use tape::Found;
 use tape::Put;
-use tape::Settings;
 use tape::SetupRead;
-use tape::Side;
 use tape::reader;
 use tape::writer;
 
@@ -146,9 +146,9 @@ fn is_setup(s: SetupRead) -> bool {
         SetupRead::Found(x) => {
             let a = x.a;
             let b = x.b;
-            x.packet == 2
-                && x.max == 4
-                && x.height == 1
+            x.sizes.packet == 2
+                && x.sizes.max == 4
+                && x.sizes.height == 1
                 && a.top == 1
                 && a.range == 3
                 && b.top == 4

@@ -1,10 +1,10 @@
 // Two tapes: one with every kind of call, of 57 words, and the small one of 21 words that docs/TAPE.md prints.
-use tape::DepthCounts;
-use tape::Estimates;
+use calls::DepthCounts;
+use calls::Estimates;
+use calls::Settings;
+use calls::Side;
+use calls::Sizes;
 use tape::Put;
-use tape::Settings;
-use tape::Side;
-use tape::Sizes;
 use tape::writer;
 
 // The place after what was written.

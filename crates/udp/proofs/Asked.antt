@@ -1,6 +1,6 @@
--- Question 3 of what a channel shows, by the tests of the code; and it is the model's question of the channel. Assumes nothing.
+-- Question 3 of what a channel shows and of a stream's counts, and question 8, by the tests of the code; and the first is the model's question of the channel. Assumes nothing.
 use mathlib.Core.Path.{_≡_, refl, sym, _∙_}
-use mathlib.Core.Bool.{Bool, true, false, not, _&&_, Bool·beq}
+use mathlib.Core.Bool.{Bool, true, false, not, _&&_, Bool·beq, and-true}
 use mathlib.Core.List.{List}
 use Prim.Native.Nat.{ℕ, _+_, _-_, _*_, _≤_, _<_}
 use native.Mathlib.Omega.{arith}
@@ -8,12 +8,14 @@ use lib.ListN.{length, length-take, length-drop}
 use lib.Dec.{leb, ltb}
 use lib.Ieee.{Float}
 use borrow.Author.Tests.{leb-true, leb-false, le-leb, lt-leb, lt-ltb, le-ltb}
-use Rattle.model.specs.Bytes.{part}
+use Rattle.model.specs.Bytes.{part, bigEndianAt, all}
+use Rattle.model.specs.Counts.{StreamCounts}
+use Rattle.model.specs.Row.{chunkTotal}
 use Rattle.model.specs.JitterBuffer.{Buffer}
-use Rattle.model.specs.Receiver.{rowHeld}
+use Rattle.model.specs.Questions.{rowHeld, streamHeld, totalAllowed}
 use Rattle.model.proofs.BoolLaws.{by-test}
-use Rattle.sizes.specs.declared.Sizes.{Sizes}
-use Rattle.sizes.specs.View.{sizesOf}
+use Rattle.calls.specs.declared.Sizes.{Sizes}
+use Rattle.calls.specs.Views.{sizesOf}
 use Rattle.udp.specs.declared.reassembler.OpenRow.{OpenRow}
 use Rattle.udp.specs.declared.reassembler.WaterfallReassembler.{WaterfallReassembler}
 use Rattle.udp.specs.declared.reassembler.WaterfallReassembler.the-variants as State
@@ -62,6 +64,32 @@ module _ (bins : ℕ) (s : Screen) where
   pub smoothing-left : rowAsked bins (s .row) ≡ true → s .«spectrum_len» ≤ bins → leb (s .«smooth_len») bins ≡ screenAsked bins s
   unfolding screenAsked
   smoothing-left held fits = rw (held, le-leb (s .«spectrum_len») bins fits)
+
+-- ---- a stream's counts
+
+module _ (limit : ℕ) (c : StreamCounts) where
+  pub packets-refused : leb (c .packets) limit ≡ false → false ≡ streamHeld limit c
+  unfolding streamHeld all
+  packets-refused refused = rw refused
+
+  pub dropped-refused : leb (c .packets) limit ≡ true → leb (c .dropped) limit ≡ false → false ≡ streamHeld limit c
+  unfolding streamHeld all
+  dropped-refused held refused = rw (held, refused)
+
+  pub late-left : leb (c .packets) limit ≡ true → leb (c .dropped) limit ≡ true → leb (c .late) limit ≡ streamHeld limit c
+  unfolding streamHeld all
+  late-left held few = rw (held, few, and-true)
+
+-- ---- question 8
+
+module _ (z : Sizes) (payload : List ℕ) where
+  pub no-total : length payload < 6 → true ≡ totalAllowed (sizesOf z) payload
+  unfolding totalAllowed
+  no-total few = rw (lt-leb 6 (length payload) few)
+
+  pub total-left : 6 ≤ length payload → (n : ℕ) → n ≡ bigEndianAt 2 2 payload → leb n (z .bins) ≡ totalAllowed (sizesOf z) payload
+  unfolding totalAllowed chunkTotal
+  total-left long n total = rw (le-leb 6 (length payload) long, total)
 
 -- ---- the model's question of the channel
 

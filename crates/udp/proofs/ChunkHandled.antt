@@ -14,12 +14,14 @@ use borrow.Author.Tests.{leb-true, ltb-true, le-leb}
 use Rattle.model.specs.Bytes.{part, placed}
 use Rattle.model.specs.JitterBuffer.{Buffer}
 use Rattle.model.specs.Row.{chunkTotal, pushChunk}
-use Rattle.model.specs.Receiver.{Channel, ChannelResult, row, totalAllowed, shownRow, waterfallInto}
+use Rattle.model.specs.Receiver.{Channel, row}
+use Rattle.model.specs.Questions.{totalAllowed}
+use Rattle.model.specs.Step.{ChannelResult, shownRow, waterfallInto}
 use Rattle.model.proofs.BoolLaws.{first-of-both}
 use Rattle.model.proofs.ListLaws.{alike-shorter}
 use Rattle.areas.proofs.Placed.{part-behind}
-use Rattle.sizes.specs.declared.Sizes.{Sizes}
-use Rattle.sizes.specs.View.{sizesOf}
+use Rattle.calls.specs.declared.Sizes.{Sizes}
+use Rattle.calls.specs.Views.{sizesOf}
 use Rattle.udp.specs.declared.reassembler.WaterfallReassembler.{WaterfallReassembler}
 use Rattle.udp.specs.declared.reassembler.WaterfallReassembler.the-variants as State
 use Rattle.udp.specs.declared.reassembler.CompletedRow.{CompletedRow}
@@ -109,14 +111,17 @@ module _ (z : Sizes) (s : Screen) (work : ℕ) (rows : List Float) (picture payl
             (omega (arith, length-take-le (z .bins) rows (omega (arith, fits)))) front-left pushed b picture
             (behind-stays (z .bins) (s .«spectrum_len») (omega arith) (omega (arith, fits, lengths .0)))
             (behind-stays (2 * z .bins) (s .«smooth_len») (omega arith) (omega (arith, fits, lengths .1))) is;
+        inside = tt;
         between = between-after;
         held = after-asked;
+        rows-as-long = rows-pushed-length;
+        picture-as-long = refl;
       }
 
   pub chunk-completes-one : (n : ℕ) (shown : Screen) (rows′ : List Float) (picture′ : List ℕ) → p .completed ≡ Completed.Bins n
-      → RowShown z screen-after rows-pushed n work picture shown rows′ picture′
+      → RowShown z screen-after rows-pushed n work picture shown rows′ picture′ → length rows′ ≡ length rows-pushed → length picture′ ≡ length picture
       → WaterfallHandled z s rows work picture payload (record { screen = shown; completed = Completed.Bins n }) rows′ picture′
-  chunk-completes-one n shown rows′ picture′ is r =
+  chunk-completes-one n shown rows′ picture′ is r rows-kept picture-kept =
       let lengths = asked-lengths (z .bins) s (ready .held) in
       let few = completed-inside n is .1 in
       let values : take n after ≡ take n rows-pushed = alike-shorter n (z .bins) after rows-pushed few front-left in
@@ -128,6 +133,9 @@ module _ (z : Sizes) (s : Screen) (work : ℕ) (rows : List Float) (picture payl
             (behind-stays (z .bins) (s .«spectrum_len») (omega arith) (omega (arith, fits, lengths .0)))
             (behind-stays (2 * z .bins) (s .«smooth_len») (omega arith) (omega (arith, fits, lengths .1))) n is
             ∙ rw (values, r .step b, values′);
+        inside = completed-inside n is;
         between = r .between ∙ between-after;
         held = r .held;
+        rows-as-long = rows-kept ∙ rows-pushed-length;
+        picture-as-long = picture-kept;
       }

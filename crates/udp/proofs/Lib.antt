@@ -6,6 +6,8 @@ pub mod ShowRow
 pub mod Screens
 pub mod RowParts
 pub mod Asked
+pub mod CountsHeld
+pub mod Fresh
 pub mod FloatBytes
 pub mod Prefix
 pub mod RowStore

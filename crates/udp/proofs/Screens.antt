@@ -16,12 +16,14 @@ use Rattle.model.specs.JitterBuffer.{Buffer}
 use Rattle.model.specs.Row.{Row, RowResult, chunkTotal, pushChunk}
 use Rattle.model.specs.Scaling.{displayAfter, shownTop, shownRange, spectrumAfter, smoothingAfter}
 use Rattle.model.specs.Picture.{pictureAfter}
-use Rattle.model.specs.Receiver.{row, rowHeld, totalAllowed, shownRow, chunkResult, waterfallInto}
+use Rattle.model.specs.Receiver.{row}
+use Rattle.model.specs.Questions.{rowHeld, totalAllowed}
+use Rattle.model.specs.Step.{shownRow, chunkResult, waterfallInto}
 use Rattle.model.proofs.BoolLaws.{both-and, first-of-both, second-of-both}
 use Rattle.model.proofs.ListLaws.{alike-shorter}
 use Rattle.model.proofs.RowLaws.{RowKept, OpenRowKept, push-chunk-keeps, row-kept-held}
-use Rattle.sizes.specs.declared.Sizes.{Sizes}
-use Rattle.sizes.specs.View.{sizesOf}
+use Rattle.calls.specs.declared.Sizes.{Sizes}
+use Rattle.calls.specs.Views.{sizesOf}
 use Rattle.udp.specs.declared.Display.{Display}
 use Rattle.udp.specs.declared.reassembler.OpenRow.{OpenRow}
 use Rattle.udp.specs.declared.reassembler.WaterfallReassembler.{WaterfallReassembler}

@@ -14,7 +14,7 @@ use Rattle.model.specs.Picture.{pictureAfter}
 use Rattle.model.proofs.BoolLaws.{both-and, first-of-both}
 use Rattle.model.proofs.ListLaws.{placed-length}
 use Rattle.model.proofs.PictureLaws.{spectrum-length, smoothing-length}
-use Rattle.sizes.specs.declared.Sizes.{Sizes}
+use Rattle.calls.specs.declared.Sizes.{Sizes}
 use Rattle.spectrum_utils.specs.Promises.{Updated}
 use Rattle.udp.specs.declared.Display.{Display}
 use Rattle.udp.specs.declared.packets.Screen.{Screen}

@@ -4,16 +4,19 @@ pub mod packets;
 pub mod reassembler;
 
 ghost use mathlib.Core.Path.{_≡_};
-ghost use Prim.Native.Nat.{_+_};
+ghost use Prim.Native.Nat.{_+_, _*_};
 ghost use lib.ListN.{length, take};
+ghost use lib.Dec.{leb};
 ghost use Rattle.model.specs.Bytes.{part};
-ghost use Rattle.model.specs.Counts.{counted};
+ghost use Rattle.model.specs.Counts.{freshCounts, counted};
 ghost use Rattle.model.specs.Scaling.{smoothed, smoothingAfter, estimated, estimatesToward, shownTop, shownRange};
+ghost use Rattle.model.specs.Questions.{mostCalls, streamHeld};
 ghost use Rattle.areas.specs.Parts.{zippedAt};
 ghost use Rattle.spectrum_utils.specs.Promises.{Behind, Updated};
 ghost use Rattle.udp.specs.Requires.{CountsFit};
 ghost use Rattle.udp.specs.Views.{countsOf, displayOf};
 ghost use Rattle.udp.specs.Displays.{RowAt, AdaptiveUpdated};
+use jitter_buffer::counter_held;
 use spectrum_utils::FloorAndTop;
 use spectrum_utils::RowEstimate;
 use std::num::wrapping_add_u32;
@@ -41,6 +44,40 @@ pub struct StreamCounts {
     pub dropped: u64,
     pub late: u64,
     pub last: LastSequence,
+}
+
+impl StreamCounts {
+    // Zeros, and no last sequence.
+    pub fn new() -> Self
+        ensures { λ r. ⌜ countsOf r ≡ freshCounts ⌝ }
+    {
+        StreamCounts {
+            packets: 0,
+            dropped: 0,
+            late: 0,
+            last: LastSequence::Unknown,
+        }
+    }
+
+    // Question 3 for a stream's counts: whether a receiver of so many accepted calls could hold them.
+    pub fn could_be_held(self, calls: u64) -> bool
+        ensures { λ r. ⌜ r ≡ streamHeld (calls * mostCalls) (countsOf self) ⌝ }
+    {
+        if !counter_held(self.packets, calls) {
+            return false;
+        }
+        if !counter_held(self.dropped, calls) {
+            return false;
+        }
+        counter_held(self.late, calls)
+    }
+}
+
+// Question 3 for the number of incoming datagrams.
+pub fn incoming_could_be_held(incoming: u64, calls: u64) -> bool
+    ensures { λ r. ⌜ r ≡ leb incoming (calls * mostCalls) ⌝ }
+{
+    counter_held(incoming, calls)
 }
 
 // Counts a datagram of the stream. A sequence above the expected one drops those between; one below it is late. The

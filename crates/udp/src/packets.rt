@@ -4,16 +4,17 @@ ghost use mathlib.Core.Path.{_≡_};
 ghost use mathlib.Core.Bool.{true};
 ghost use lib.ListN.{length};
 ghost use Rattle.model.specs.Samples.{holdsSamples};
-ghost use Rattle.model.specs.Receiver.{totalAllowed};
-ghost use Rattle.sizes.specs.View.{sizesOf};
+ghost use Rattle.model.specs.Questions.{totalAllowed};
+ghost use Rattle.calls.specs.Views.{sizesOf};
 ghost use Rattle.jitter_buffer.specs.Promises.{Ready};
 ghost use Prim.Native.Nat.{_≤_};
-ghost use Rattle.udp.specs.Packets.{AudioHandled, rowAsked, screenAsked, ScreenReady, RowShown, WaterfallHandled};
+ghost use Rattle.udp.specs.Packets.{AudioHandled, rowAsked, screenAsked, FreshScreen, ScreenReady, RowShown, WaterfallHandled};
 use crate::Display;
 use crate::reassembler::CompletedRow;
 use crate::reassembler::WaterfallReassembler;
+use calls::Sizes;
 use jitter_buffer::JitterBuffer;
-use sizes::Sizes;
+use udp_framing::big_endian::read_u16;
 
 // Whether a payload holds samples: 2 bytes or more, and of even length.
 fn holds_samples(payload: &[u8]) -> bool
@@ -80,6 +81,27 @@ fn row_could_be_held(row: WaterfallReassembler, bins: usize) -> bool
 }
 
 impl Screen {
+    // No row, nothing shown, and the settings that a receiver starts with; the three estimates come with its setup.
+    pub fn new(top_estimate: f32, floor_estimate: f32, range_estimate: f32) -> Self
+        ensures { λ r. ⌜ FreshScreen «top_estimate» «floor_estimate» «range_estimate» r ⌝ }
+    {
+        Screen {
+            row: WaterfallReassembler::NoRow,
+            spectrum_len: 0,
+            smooth_len: 0,
+            display: Display {
+                adaptive: false,
+                top: -35.0,
+                range: 70.0,
+                zoom: 1.0,
+                smoothing: 0.0,
+                top_estimate,
+                floor_estimate,
+                range_estimate,
+            },
+        }
+    }
+
     // Question 3 for what a channel shows: whether a receiver with rows of at most so many bins could hold it. It takes any
     // numbers.
     pub fn could_be_held(self, bins: usize) -> bool
@@ -94,6 +116,16 @@ impl Screen {
         }
         self.smooth_len <= bins
     }
+}
+
+// Question 8: a payload of 6 bytes or more names a total of at most so many bins.
+pub fn total_allowed(z: Sizes, payload: &[u8]) -> bool
+    ensures { λ r. ⌜ r ≡ totalAllowed (sizesOf z) (now (payload .entry)) ⌝ }
+{
+    if payload.len() < 6 {
+        return true;
+    }
+    (read_u16(payload, 2) as usize) <= z.bins
 }
 
 // Shows the row of n bins that `rows` begins with: the spectrum and the estimates follow the raw row, then smoothing does,

@@ -4,17 +4,14 @@ use mathlib.Core.Bool.{Bool, true, false, not, _&&_}
 use mathlib.Core.List.{List}
 use Prim.Native.Nat.{ℕ, _+_, _-_, _*_, _≤_, _<_}
 use native.Mathlib.Omega.{arith}
-use lib.ListN.{length}
 use lib.Dec.{leb, eqb}
-use borrow.Author.Tests.{not-true, not-false, leb-true, eqb-true, le-leb, lt-leb}
-use Rattle.model.specs.Bytes.{bigEndianAt}
+use borrow.Author.Tests.{not-true, not-false, leb-true, eqb-true, le-leb, lt-leb, eq-eqb, ne-eqb}
 use Rattle.model.specs.Counts.{StreamCounts}
-use Rattle.model.specs.Row.{chunkTotal}
 use Rattle.model.specs.Sizes.{sizesAllowed}
-use Rattle.model.specs.Receiver.{totalAllowed}
+use Rattle.model.specs.Questions.{totalAllowed}
 use Rattle.model.proofs.BoolLaws.{both-and, first-of-both, second-of-both}
-use Rattle.sizes.specs.declared.Sizes.{Sizes}
-use Rattle.sizes.specs.View.{sizesOf}
+use Rattle.calls.specs.declared.Sizes.{Sizes}
+use Rattle.calls.specs.Views.{sizesOf}
 use Rattle.udp.specs.Requires.{CountsFit}
 use Rattle.udp.specs.declared.packets.Screen.{Screen}
 use Rattle.udp.specs.Packets.{screenAsked, ScreenReady}
@@ -28,17 +25,6 @@ is-so {r} told left = sym told ∙ not-false r left
 pub is-not-so : {r b : Bool} → r ≡ b → not r ≡ true → b ≡ false
 is-not-so {r} told taken = sym told ∙ not-true r taken
 
--- ---- question 8
-
-module _ (z : Sizes) (payload : List ℕ) where
-  pub no-total : length payload < 6 → true ≡ totalAllowed (sizesOf z) payload
-  unfolding totalAllowed
-  no-total few = rw (lt-leb 6 (length payload) few)
-
-  pub total-left : 6 ≤ length payload → (n : ℕ) → n ≡ bigEndianAt 2 2 payload → leb n (z .bins) ≡ totalAllowed (sizesOf z) payload
-  unfolding totalAllowed chunkTotal
-  total-left long n total = rw (le-leb 6 (length payload) long, total)
-
 -- ---- the lent memory
 
 module _ (z : Sizes) (rows work picture : ℕ) where
@@ -46,13 +32,13 @@ module _ (z : Sizes) (rows work picture : ℕ) where
   unfolding lentAsked
   work-over-rows early = rw (lt-leb (3 * z .bins) work early)
 
-  pub work-cut : 3 * z .bins ≤ work → rows < work + z .bins → false ≡ lentAsked z rows work picture
+  pub ends-elsewhere : 3 * z .bins ≤ work → (work + z .bins ≡ rows → ⊥) → false ≡ lentAsked z rows work picture
   unfolding lentAsked
-  work-cut behind cut = rw (le-leb (3 * z .bins) work behind, lt-leb (work + z .bins) rows cut)
+  ends-elsewhere behind ends = rw (le-leb (3 * z .bins) work behind, ne-eqb (work + z .bins) rows ends)
 
-  pub picture-left : 3 * z .bins ≤ work → work + z .bins ≤ rows → eqb picture (z .width * z .height) ≡ lentAsked z rows work picture
+  pub picture-left : 3 * z .bins ≤ work → work + z .bins ≡ rows → eqb picture (z .width * z .height) ≡ lentAsked z rows work picture
   unfolding lentAsked
-  picture-left behind inside = rw (le-leb (3 * z .bins) work behind, le-leb (work + z .bins) rows inside)
+  picture-left behind ends = rw (le-leb (3 * z .bins) work behind, eq-eqb (work + z .bins) rows ends)
 
 -- ---- a waterfall payload
 
@@ -75,13 +61,13 @@ module _ (z : Sizes) (s : Screen) (rows work picture : ℕ) where
   asked-ready asked =
       let rest = second-of-both (sizesAllowed (sizesOf z)) _ asked in
       let lent = first-of-both (lentAsked z rows work picture) _ rest in
-      let inside = second-of-both (leb (3 * z .bins) work) _ lent in
+      let ends = second-of-both (leb (3 * z .bins) work) _ lent in
       record {
         allowed = first-of-both (sizesAllowed (sizesOf z)) _ asked;
         held = second-of-both (lentAsked z rows work picture) _ rest;
         behind = leb-true (3 * z .bins) work (first-of-both (leb (3 * z .bins) work) _ lent);
-        fits = leb-true (work + z .bins) rows (first-of-both (leb (work + z .bins) rows) _ inside);
-        whole = eqb-true picture (z .width * z .height) (second-of-both (leb (work + z .bins) rows) _ inside);
+        fits = eqb-true (work + z .bins) rows (first-of-both (eqb (work + z .bins) rows) _ ends);
+        whole = eqb-true picture (z .width * z .height) (second-of-both (eqb (work + z .bins) rows) _ ends);
       }
 
   module _ (payload : List ℕ) where

@@ -10,7 +10,7 @@ use lib.Dec.{leb}
 use lib.Ieee.{Float}
 use borrow.Author.Tests.{le-leb, lt-leb}
 use Rattle.model.proofs.BoolLaws.{clash}
-use Rattle.sizes.specs.declared.Sizes.{Sizes}
+use Rattle.calls.specs.declared.Sizes.{Sizes}
 use Rattle.jitter_buffer.specs.declared.JitterBuffer.{JitterBuffer}
 use Rattle.jitter_checked.specs.Asked.{bufferAsked}
 use Rattle.jitter_checked.specs.Promises.{pushWordsAsked}

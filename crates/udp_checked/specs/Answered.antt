@@ -7,7 +7,7 @@ use Prim.Native.Nat.{ℕ}
 use lib.ListN.{length}
 use lib.Ieee.{Float}
 use Rattle.model.specs.Counts.{counted}
-use Rattle.sizes.specs.declared.Sizes.{Sizes}
+use Rattle.calls.specs.declared.Sizes.{Sizes}
 use Rattle.jitter_buffer.specs.declared.JitterBuffer.{JitterBuffer}
 use Rattle.jitter_checked.specs.Asked.{bufferAsked}
 use Rattle.udp.specs.declared.StreamCounts.{StreamCounts}

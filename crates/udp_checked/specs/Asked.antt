@@ -5,18 +5,18 @@ use Prim.Native.Nat.{ℕ, _+_, _*_}
 use lib.Dec.{leb, eqb}
 use Rattle.model.specs.Counts.{StreamCounts}
 use Rattle.model.specs.Sizes.{sizesAllowed}
-use Rattle.model.specs.Receiver.{totalAllowed}
-use Rattle.sizes.specs.declared.Sizes.{Sizes}
-use Rattle.sizes.specs.View.{sizesOf}
+use Rattle.model.specs.Questions.{totalAllowed}
+use Rattle.calls.specs.declared.Sizes.{Sizes}
+use Rattle.calls.specs.Views.{sizesOf}
 use Rattle.udp.specs.declared.packets.Screen.{Screen}
 use Rattle.udp.specs.Packets.{screenAsked}
 
--- a work section behind the rows, inside the slice, and a whole picture
+-- a work section behind the rows, up to the slice's end, and a whole picture
 unfoldable pub lentAsked : Sizes → ℕ → ℕ → ℕ → Bool
 lentAsked z rows work picture =
-    leb (3 * z .bins) work && (leb (work + z .bins) rows && eqb picture (z .width * z .height))
+    leb (3 * z .bins) work && (eqb (work + z .bins) rows && eqb picture (z .width * z .height))
 
--- allowed sizes, lent memory that is long enough, and a screen that a receiver could hold
+-- allowed sizes, lent memory that will do, and a screen that a receiver could hold
 unfoldable pub readyAsked : Sizes → Screen → ℕ → ℕ → ℕ → Bool
 readyAsked z s rows work picture =
     sizesAllowed (sizesOf z) && (lentAsked z rows work picture && screenAsked (z .bins) s)

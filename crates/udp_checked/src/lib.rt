@@ -6,16 +6,14 @@ ghost use mathlib.Core.Path.{_≡_};
 ghost use mathlib.Core.Bool.{true};
 ghost use lib.ListN.{length};
 ghost use Rattle.model.specs.Sizes.{sizesAllowed};
-ghost use Rattle.model.specs.Receiver.{totalAllowed};
-ghost use Rattle.sizes.specs.View.{sizesOf};
+ghost use Rattle.calls.specs.Views.{sizesOf};
 ghost use Rattle.udp_checked.specs.Asked.{lentAsked, readyAsked};
 ghost use Rattle.udp_checked.specs.Answered.{WaterfallAnswered, AudioAnswered, CountsAnswered};
+use calls::Sizes;
 use jitter_buffer::JitterBuffer;
-use sizes::Sizes;
 use udp::StreamCounts;
 use udp::packets::Handled;
 use udp::packets::Screen;
-use udp_framing::big_endian::read_u16;
 
 pub enum Waterfall {
     Refused,
@@ -32,17 +30,7 @@ pub enum Counted {
     Done(StreamCounts),
 }
 
-// Question 8: a payload of 6 bytes or more names a total of at most so many bins.
-fn total_allowed(z: Sizes, payload: &[u8]) -> bool
-    ensures { λ r. ⌜ r ≡ totalAllowed (sizesOf z) (now (payload .entry)) ⌝ }
-{
-    if payload.len() < 6 {
-        return true;
-    }
-    (read_u16(payload, 2) as usize) <= z.bins
-}
-
-// Whether the lent memory will do: a work section behind the rows, inside the slice, and a whole picture.
+// Whether the lent memory will do: a work section behind the rows, up to the slice's end, and a whole picture.
 fn lent(z: Sizes, rows: usize, work: usize, picture: usize) -> bool
     requires { ⌜ sizesAllowed (sizesOf z) ≡ true ⌝ }
     ensures { λ r. ⌜ r ≡ lentAsked z rows work picture ⌝ }
@@ -53,7 +41,7 @@ fn lent(z: Sizes, rows: usize, work: usize, picture: usize) -> bool
     if rows < work {
         return false;
     }
-    if rows - work < z.bins {
+    if rows - work != z.bins {
         return false;
     }
     picture == z.width * z.height
@@ -85,7 +73,7 @@ pub fn handle_waterfall_packet(
     if !screen_ready(screen, z, rows.len(), work, picture.len()) {
         return Waterfall::Refused;
     }
-    if !total_allowed(z, payload) {
+    if !udp::packets::total_allowed(z, payload) {
         return Waterfall::Refused;
     }
     Waterfall::Done(udp::packets::handle_waterfall_packet(screen, z, rows, work, picture, payload))

@@ -2,9 +2,8 @@
 // slices: row, spectrum and smoothing in `rows`, with the work section behind them, and the picture.
 use crate::words::float;
 use crate::words::word;
-use sizes::Sizes;
+use calls::Sizes;
 use udp::Display;
-use udp::LastSequence;
 use udp::StreamCounts;
 use udp::packets::Screen;
 use udp::reassembler::CompletedRow;
@@ -44,31 +43,11 @@ pub(crate) fn fresh(words: &[u32]) -> Session {
         width: word(words, 1) as usize,
         height: word(words, 2) as usize,
     };
-    let display = Display {
-        adaptive: false,
-        top: -35.0,
-        range: 70.0,
-        zoom: 1.0,
-        smoothing: 0.0,
-        top_estimate: float(words, 3),
-        floor_estimate: float(words, 4),
-        range_estimate: float(words, 5),
-    };
     Session {
         z,
         pixels: pixels_of(z),
-        screen: Screen {
-            row: WaterfallReassembler::NoRow,
-            spectrum_len: 0,
-            smooth_len: 0,
-            display,
-        },
-        counts: StreamCounts {
-            packets: 0,
-            dropped: 0,
-            late: 0,
-            last: LastSequence::Unknown,
-        },
+        screen: Screen::new(float(words, 3), float(words, 4), float(words, 5)),
+        counts: StreamCounts::new(),
     }
 }
 
@@ -132,6 +111,7 @@ fn after(s: Session, answer: Waterfall) -> Acted {
     }
 }
 
+// A waterfall payload, on exactly the channel's memory.
 pub(crate) fn waterfall(
     s: Session,
     rows: &mut [f32],
@@ -147,11 +127,18 @@ pub(crate) fn waterfall(
     }
     let z = s.z;
     let work = z.bins % 65536 * 3;
+    let end = work + z.bins % 65536;
+    if rows.len() < end {
+        return Acted {
+            session: s,
+            answer: 0,
+        };
+    }
     let screen = s.screen;
     let answer = udp_checked::handle_waterfall_packet(
         screen,
         z,
-        rows,
+        &mut rows[..end],
         work,
         &mut picture[..pixels],
         payload,

@@ -17,25 +17,25 @@ abbrev μ-loop : tie.MeasureT-loop
 μ-loop a₀ from to n i₀ a i = n - i
 
 loop-holds : tie.Need-loop-holds Inv-loop μ-loop
-loop-holds c = (omega arith, placed-none (c .args .to) [] (c .args .a .now) refl, refl)
+loop-holds c = (omega arith, placed-none (c .args .to) [] (c .args .us .now) refl, refl)
 
-add-a : tie.Need-add-a Inv-loop μ-loop
-add-a c = omega arith
+add-us : tie.Need-add-us Inv-loop μ-loop
+add-us c = omega arith
 
-mul-a : tie.Need-mul-a Inv-loop μ-loop
-mul-a c = omega (arith, c .before .before .good .0 .1)
+mul-us : tie.Need-mul-us Inv-loop μ-loop
+mul-us c = omega (arith, c .before .before .good .0 .1)
 
-slice-read-a : tie.Need-slice-read-a Inv-loop μ-loop
-slice-read-a c = omega arith
+slice-read-us : tie.Need-slice-read-us Inv-loop μ-loop
+slice-read-us c = omega arith
 
-add-a-2 : tie.Need-add-a-2 Inv-loop μ-loop
-add-a-2 c = omega arith
+add-us-2 : tie.Need-add-us-2 Inv-loop μ-loop
+add-us-2 c = omega arith
 
-mul-a-2 : tie.Need-mul-a-2 Inv-loop μ-loop
-mul-a-2 c = omega (arith, c .before .before .before .good .0 .1)
+mul-us-2 : tie.Need-mul-us-2 Inv-loop μ-loop
+mul-us-2 c = omega (arith, c .before .before .before .good .0 .1)
 
-slice-write-a : tie.Need-slice-write-a Inv-loop μ-loop
-slice-write-a c = omega arith
+slice-write-us : tie.Need-slice-write-us Inv-loop μ-loop
+slice-write-us c = omega arith
 
 add-i : tie.Need-add-i Inv-loop μ-loop
 add-i c = omega arith
@@ -49,7 +49,7 @@ loop-again c =
     let g = k .before .args in
     let e = k .loop .inv .1 in (
       omega arith,
-      rw e (move-down-step 0 (g .from) (g .to) (g .n) (k .loop .i) (g .a .now) (omega arith) (omega arith) (omega arith)),
+      rw e (move-down-step 0 (g .from) (g .to) (g .n) (k .loop .i) (g .us .now) (omega arith) (omega arith) (omega arith)),
       simp length-set (k .loop .inv .2),
     )
 
@@ -59,8 +59,8 @@ same-length c = c .before .loop .inv .2
 returns : tie.Need-returns Inv-loop μ-loop
 returns c =
     let g = c .before .before .args in
-    let all : take (c .before .loop .i) (part (g .from) (g .n) (g .a .now)) ≡ part (g .from) (g .n) (g .a .now) =
-    take-all (c .before .loop .i) _ (omega (arith, part-length (g .from) (g .n) (g .a .now) (omega arith))) in
+    let all : take (c .before .loop .i) (part (g .from) (g .n) (g .us .now)) ≡ part (g .from) (g .n) (g .us .now) =
+    take-all (c .before .loop .i) _ (omega (arith, part-length (g .from) (g .n) (g .us .now) (omega arith))) in
     rw all at (c .before .loop .inv .1)
 
 pub move-down-u32-spec : {M : Type 1} → statement M
@@ -70,12 +70,12 @@ move-down-u32-spec =
     Inv-loop
     μ-loop
     loop-holds
-    add-a
-    mul-a
-    slice-read-a
-    add-a-2
-    mul-a-2
-    slice-write-a
+    add-us
+    mul-us
+    slice-read-us
+    add-us-2
+    mul-us-2
+    slice-write-us
     add-i
     loop-less
     loop-again

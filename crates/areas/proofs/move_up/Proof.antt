@@ -23,8 +23,8 @@ loop-holds c =
     let l = part-length (g .from) (g .n) (g .a .now) (omega arith) in
     (omega arith, placed-none (g .to + g .n) (drop (g .n) (part (g .from) (g .n) (g .a .now))) (g .a .now) (simp length-drop (omega arith)), refl)
 
-sub-i : tie.Need-sub-i Inv-loop μ-loop
-sub-i c = omega arith
+sub-left : tie.Need-sub-left Inv-loop μ-loop
+sub-left c = omega arith
 
 add-a : tie.Need-add-a Inv-loop μ-loop
 add-a c = omega arith
@@ -51,8 +51,8 @@ loop-again : tie.Need-loop-again Inv-loop μ-loop
 loop-again c =
     let k = c .before .before in
     let g = k .before .args in
-    let j = k .loop .i - 1 in
-    let last : k .loop .i ≡ j + 1 = omega arith in
+    let j = k .loop .left - 1 in
+    let last : k .loop .left ≡ j + 1 = omega arith in
     let e : k .loop .a ≡ placed (g .to + (j + 1)) (drop (j + 1) (part (g .from) (g .n) (g .a .now))) (g .a .now) = rw last at (k .loop .inv .1) in (
       omega arith,
       rw e (move-up-step nan (g .from) (g .to) (g .n) j (g .a .now) (omega arith) (omega arith) (omega arith)),
@@ -64,7 +64,7 @@ same-length c = c .before .loop .inv .2
 
 returns : tie.Need-returns Inv-loop μ-loop
 returns c =
-    let none : c .before .loop .i ≡ 0 = omega arith in
+    let none : c .before .loop .left ≡ 0 = omega arith in
     rw (none, add-zero) at (c .before .loop .inv .1)
 
 pub move-up-spec : {M : Type 1} → statement M
@@ -74,7 +74,7 @@ move-up-spec =
     Inv-loop
     μ-loop
     loop-holds
-    sub-i
+    sub-left
     add-a
     mul-a
     slice-read-a

@@ -19,29 +19,29 @@ abbrev μ-loop : tie.MeasureT-loop
 loop-holds : tie.Need-loop-holds Inv-loop μ-loop
 loop-holds c =
     let g = c .args in
-    let l = part-length (g .from) (g .n) (g .a .now) (omega arith) in
-    (omega arith, placed-none (g .to + g .n) (drop (g .n) (part (g .from) (g .n) (g .a .now))) (g .a .now) (simp length-drop (omega arith)), refl)
+    let l = part-length (g .from) (g .n) (g .us .now) (omega arith) in
+    (omega arith, placed-none (g .to + g .n) (drop (g .n) (part (g .from) (g .n) (g .us .now))) (g .us .now) (simp length-drop (omega arith)), refl)
 
-sub-i : tie.Need-sub-i Inv-loop μ-loop
-sub-i c = omega arith
+sub-left : tie.Need-sub-left Inv-loop μ-loop
+sub-left c = omega arith
 
-add-a : tie.Need-add-a Inv-loop μ-loop
-add-a c = omega arith
+add-us : tie.Need-add-us Inv-loop μ-loop
+add-us c = omega arith
 
-mul-a : tie.Need-mul-a Inv-loop μ-loop
-mul-a c = omega (arith, c .before .before .good .0 .1)
+mul-us : tie.Need-mul-us Inv-loop μ-loop
+mul-us c = omega (arith, c .before .before .good .0 .1)
 
-slice-read-a : tie.Need-slice-read-a Inv-loop μ-loop
-slice-read-a c = omega arith
+slice-read-us : tie.Need-slice-read-us Inv-loop μ-loop
+slice-read-us c = omega arith
 
-add-a-2 : tie.Need-add-a-2 Inv-loop μ-loop
-add-a-2 c = omega arith
+add-us-2 : tie.Need-add-us-2 Inv-loop μ-loop
+add-us-2 c = omega arith
 
-mul-a-2 : tie.Need-mul-a-2 Inv-loop μ-loop
-mul-a-2 c = omega (arith, c .before .before .before .good .0 .1)
+mul-us-2 : tie.Need-mul-us-2 Inv-loop μ-loop
+mul-us-2 c = omega (arith, c .before .before .before .good .0 .1)
 
-slice-write-a : tie.Need-slice-write-a Inv-loop μ-loop
-slice-write-a c = omega arith
+slice-write-us : tie.Need-slice-write-us Inv-loop μ-loop
+slice-write-us c = omega arith
 
 loop-less : tie.Need-loop-less Inv-loop μ-loop
 loop-less c = omega arith
@@ -50,11 +50,11 @@ loop-again : tie.Need-loop-again Inv-loop μ-loop
 loop-again c =
     let k = c .before .before in
     let g = k .before .args in
-    let j = k .loop .i - 1 in
-    let last : k .loop .i ≡ j + 1 = omega arith in
-    let e : k .loop .a ≡ placed (g .to + (j + 1)) (drop (j + 1) (part (g .from) (g .n) (g .a .now))) (g .a .now) = rw last at (k .loop .inv .1) in (
+    let j = k .loop .left - 1 in
+    let last : k .loop .left ≡ j + 1 = omega arith in
+    let e : k .loop .us ≡ placed (g .to + (j + 1)) (drop (j + 1) (part (g .from) (g .n) (g .us .now))) (g .us .now) = rw last at (k .loop .inv .1) in (
       omega arith,
-      rw e (move-up-step 0 (g .from) (g .to) (g .n) j (g .a .now) (omega arith) (omega arith) (omega arith)),
+      rw e (move-up-step 0 (g .from) (g .to) (g .n) j (g .us .now) (omega arith) (omega arith) (omega arith)),
       simp length-set (k .loop .inv .2),
     )
 
@@ -63,7 +63,7 @@ same-length c = c .before .loop .inv .2
 
 returns : tie.Need-returns Inv-loop μ-loop
 returns c =
-    let none : c .before .loop .i ≡ 0 = omega arith in
+    let none : c .before .loop .left ≡ 0 = omega arith in
     rw (none, add-zero) at (c .before .loop .inv .1)
 
 pub move-up-u32-spec : {M : Type 1} → statement M
@@ -73,13 +73,13 @@ move-up-u32-spec =
     Inv-loop
     μ-loop
     loop-holds
-    sub-i
-    add-a
-    mul-a
-    slice-read-a
-    add-a-2
-    mul-a-2
-    slice-write-a
+    sub-left
+    add-us
+    mul-us
+    slice-read-us
+    add-us-2
+    mul-us-2
+    slice-write-us
     loop-less
     loop-again
     same-length

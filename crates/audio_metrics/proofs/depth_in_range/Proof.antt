@@ -1,6 +1,6 @@
 -- `audio_metrics::depth_in_range` meets its contract: it is the test. Assumes nothing.
 use mathlib.Core.Path.{refl}
-use Rattle.model.specs.Receiver.{depthAllowed}
+use Rattle.model.specs.Questions.{depthAllowed}
 use Rattle.audio_metrics.proofs.depth_in_range.Statement.{statement}
 use Rattle.audio_metrics.proofs.depth_in_range.Tie as tie
 use Rattle.audio_metrics.proofs.depth_in_range.Reads as reads

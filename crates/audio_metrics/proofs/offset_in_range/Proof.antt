@@ -5,7 +5,7 @@ use lib.IntN.{negsuc}
 use lib.Signed.{leZ}
 use mir.Syntax.{w64}
 use mir.ValLaws.{toZ-ofZ}
-use Rattle.model.specs.Receiver.{offsetAllowed}
+use Rattle.model.specs.Questions.{offsetAllowed}
 use Rattle.audio_metrics.proofs.offset_in_range.Statement.{statement}
 use Rattle.audio_metrics.proofs.offset_in_range.Tie as tie
 use Rattle.audio_metrics.proofs.offset_in_range.Reads as reads

@@ -2,7 +2,7 @@
 use mir.Syntax.{w64}
 use mir.Val.{SFits}
 use mir.ValLaws.{toZ-ofZ}
-use Rattle.model.specs.Receiver.{oneWayHeld}
+use Rattle.model.specs.Questions.{oneWayHeld}
 use borrow.Author.Needs.{needs}
 use Rattle.audio_metrics.proofs.one_way_could_be_held.Statement.{statement}
 use Rattle.audio_metrics.proofs.one_way_could_be_held.Tie as tie

@@ -1,7 +1,7 @@
 -- `audio_metrics::probe_in_range` meets its contract: the offset as its function ensures, and a test of the round trip. Assumes nothing.
 use mir.Syntax.{w64}
 use mir.ValLaws.{toZ-ofZ}
-use Rattle.model.specs.Receiver.{probeAllowed}
+use Rattle.model.specs.Questions.{probeAllowed}
 use borrow.Author.Needs.{needs}
 use Rattle.audio_metrics.proofs.probe_in_range.Statement.{statement}
 use Rattle.audio_metrics.proofs.probe_in_range.Tie as tie

@@ -1,4 +1,5 @@
--- `audio_metrics::step_toward` meets its contract: the difference of two numbers in the range fits, and the step stays between them. Assumes nothing.
+-- `audio_metrics::step_toward` meets its contract: the difference of two numbers in the range fits, and what is divided by 2 or more can be
+-- added to one of them, whatever it is. Assumes nothing.
 use mathlib.Core.Path.{_≡_, refl, sym}
 use Prim.Native.Nat.{ℕ, _^_, _<_, _≤_}
 use native.Mathlib.Omega.{arith}
@@ -8,7 +9,8 @@ use mir.Syntax.{w64}
 use mir.Val.{SFits, toZ, ofZ}
 use mir.ValLaws.{toZ-ofZ}
 use Rattle.model.specs.Clock.{stepToward}
-use Rattle.audio_metrics.proofs.Signed.{positive, positive-bits, difference-fits, quotient-fits, step-fits, quotient-read}
+use Rattle.audio_metrics.proofs.Signed.{positive, positive-bits, difference-fits, step-fits, quotient-read, part-below, part-read, moved-below, above-one}
+use borrow.Author.Tests.{ltb-true}
 use Rattle.audio_metrics.proofs.step_toward.Statement.{statement}
 use Rattle.audio_metrics.proofs.step_toward.Tie as tie
 use Rattle.audio_metrics.proofs.step_toward.Reads as reads
@@ -20,19 +22,12 @@ sub-result c =
     (difference-fits 1 (c .args .old) (c .args .new) (c .pre .old-fits) (c .pre .new-fits))
 
 div-result : tie.Need-div-result
-div-result c =
-    let g = c .args in
-    let n = natAbs (g .n) in (
-      positive-bits (g .n) (c .pre .divisor),
-      rw (toZ-ofZ w64 (g .new) (c .fits .new), toZ-ofZ w64 (g .old) (c .fits .old), toZ-ofZ w64 (g .n) (c .fits .n), toZ-ofZ w64 (g .new -ℤ g .old) (difference-fits n (g .old) (g .new) (c .pre .old-fits) (c .pre .new-fits)), positive (g .n) (c .pre .divisor))
-          (quotient-fits n (g .old) (g .new) (c .pre .old-fits) (c .pre .new-fits)),
-    )
+div-result c = (positive-bits (c .args .n) (c .pre .divisor), rw (toZ-ofZ w64 (c .args .n) (c .fits .n), positive (c .args .n) (c .pre .divisor)) (record { sfits = ltb-true _ _ (rw (part-below (natAbs (c .args .n)))) }))
 
 add-result : tie.Need-add-result
 add-result c =
-    let quotient = quotient-read (c .args .n) (c .args .old) (c .args .new) (c .fits .n) (c .fits .old) (c .fits .new) (c .pre .divisor) (c .pre .old-fits) (c .pre .new-fits) in
-    rw (quotient, toZ-ofZ w64 (c .args .old) (c .fits .old))
-    (step-fits (natAbs (c .args .n)) (c .args .old) (c .args .new) (c .pre .old-fits) (c .pre .new-fits))
+    rw (toZ-ofZ w64 (c .args .old) (c .fits .old), toZ-ofZ w64 (c .args .n) (c .fits .n), positive (c .args .n) (c .pre .divisor), part-read (natAbs (c .args .n)))
+    (record { sfits = ltb-true _ _ (rw (moved-below (natAbs (c .args .n)) (c .args .old) (above-one (c .args .n) (c .pre .divisor)) (c .pre .old-fits))) })
 
 returns : tie.Need-returns
 unfolding stepToward

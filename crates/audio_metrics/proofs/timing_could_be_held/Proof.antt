@@ -3,7 +3,7 @@ use mathlib.Core.Path.{sym, _∙_}
 use mir.Syntax.{w64}
 use mir.Val.{SFits}
 use mir.ValLaws.{toZ-ofZ}
-use Rattle.model.specs.Receiver.{timingHeld}
+use Rattle.model.specs.Questions.{timingHeld}
 use borrow.Author.Needs.{needs}
 use Rattle.audio_metrics.proofs.timing_could_be_held.Statement.{statement}
 use Rattle.audio_metrics.proofs.timing_could_be_held.Tie as tie

@@ -21,7 +21,7 @@ move-packet-requires c κs =
     let p = c .before .before .before .before .before .before .before .pre in
     let e = sym (c .before .before .before .before .fill-step .ensures) ∙ c .before .before .step .given .1 in
     let f = step-moved (g .z) (g .j) (g .us .now) (g .taken) _ e in
-    (record { allowed = p .allowed; fits = p .lent .floats; queue = f .below }, omega (arith, f .waits, p .waiting))
+    (record { allowed = p .allowed; fits = omega (arith, p .lent .floats); queue = f .below }, omega (arith, f .waits, p .waiting))
 
 add-t16 : tie.Need-add-t16
 add-t16 c = search needs
@@ -35,7 +35,7 @@ conceal-packet-requires c κs =
     let p = c .before .before .before .before .before .before .before .pre in
     let e = sym (c .before .before .before .before .fill-step .ensures) ∙ c .before .before .step2 .given .1 in
     let f = step-concealed (g .z) (g .j) (g .us .now) (g .taken) _ e in
-    (record { allowed = p .allowed; fits = p .lent .floats; queue = f .below }, p .counts)
+    (record { allowed = p .allowed; fits = omega (arith, p .lent .floats); queue = f .below }, p .counts)
 
 mul-earliest : tie.Need-mul-earliest
 mul-earliest c =

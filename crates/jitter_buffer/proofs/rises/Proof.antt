@@ -4,7 +4,7 @@ use native.Mathlib.Omega.{arith}
 use mathlib.Core.Bool.{true}
 use Prim.Native.Nat.{ℕ, _-_, _<_, _≤_}
 use native.Mathlib.Nat.{sub-zero}
-use Rattle.model.specs.Receiver.{strictlyRising}
+use Rattle.model.specs.Questions.{strictlyRising}
 use Rattle.jitter_buffer.specs.View.{wordsFrom}
 use Rattle.jitter_buffer.proofs.Asked.{unzero, rising-none, rising-one, falls-short, rises-more}
 use Rattle.jitter_buffer.proofs.rises.Statement.{statement}

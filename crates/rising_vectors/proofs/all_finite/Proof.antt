@@ -10,7 +10,7 @@ use lib.Seq.{drop-cons}
 use lib.Ieee.{Float, nan}
 use borrow.Author.Tests.{not-true, not-false}
 use Rattle.model.specs.Floats.{finite}
-use Rattle.model.specs.Receiver.{all}
+use Rattle.model.specs.Bytes.{all}
 use borrow.Author.Needs.{needs}
 use Rattle.rising_vectors.proofs.all_finite.Statement.{statement}
 use Rattle.rising_vectors.proofs.all_finite.Tie as tie

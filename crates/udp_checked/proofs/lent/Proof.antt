@@ -2,7 +2,7 @@
 use native.Mathlib.Omega.{arith}
 use Rattle.model.proofs.SizeLaws.{allowed}
 use Rattle.sizes.proofs.Bounds.{picture-bound}
-use Rattle.udp_checked.proofs.Asked.{work-over-rows, work-cut, picture-left}
+use Rattle.udp_checked.proofs.Asked.{work-over-rows, ends-elsewhere, picture-left}
 use Rattle.udp_checked.proofs.lent.Statement.{statement}
 use Rattle.udp_checked.proofs.lent.Tie as tie
 
@@ -13,10 +13,10 @@ returns : tie.Need-returns
 returns c = work-over-rows _ _ _ _ (omega arith)
 
 returns-2 : tie.Need-returns-2
-returns-2 c = work-cut _ _ _ _ (omega arith) (omega arith)
+returns-2 c = ends-elsewhere _ _ _ _ (omega arith) (λ ends. omega arith)
 
 returns-3 : tie.Need-returns-3
-returns-3 c = work-cut _ _ _ _ (omega arith) (omega arith)
+returns-3 c = ends-elsewhere _ _ _ _ (omega arith) (λ ends. omega arith)
 
 mul-result : tie.Need-mul-result
 mul-result c = omega (arith, picture-bound _ (c .before .before .before .before .before .before .pre))

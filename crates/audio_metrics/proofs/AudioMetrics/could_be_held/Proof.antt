@@ -1,5 +1,5 @@
 -- `audio_metrics::AudioMetrics::could_be_held` meets its contract: the timing, then the delay with it. Assumes nothing.
-use Rattle.model.specs.Receiver.{clockHeld}
+use Rattle.model.specs.Questions.{clockHeld}
 use borrow.Author.Needs.{needs}
 use Rattle.audio_metrics.proofs.AudioMetrics.could_be_held.Statement.{statement}
 use Rattle.audio_metrics.proofs.AudioMetrics.could_be_held.Tie as tie

@@ -4,7 +4,7 @@ use mathlib.Core.Bool.{true, false}
 use mir.Syntax.{w64}
 use mir.Val.{SFits}
 use mir.ValLaws.{toZ-ofZ}
-use Rattle.model.specs.Clock.{oneWayOf, oneWayInRange, oneWayed, recordOneWay}
+use Rattle.model.specs.Clock.{oneWayOf, oneWayInRange, oneWayUpdated, recordOneWay}
 use Rattle.audio_metrics.specs.Views.{clockOf}
 use Rattle.audio_metrics.proofs.DelayWords.{in-range-below, clock-delay-below}
 use borrow.Author.Needs.{needs}
@@ -23,7 +23,7 @@ enum-told : tie.Need-enum-told
 enum-told c = search needs
 
 returns : tie.Need-returns
-unfolding recordOneWay oneWayed
+unfolding recordOneWay oneWayUpdated
 returns c = rw (c .enum-told .given .1)
 
 one-way-of-requires : tie.Need-one-way-of-requires
@@ -42,7 +42,7 @@ one-way-after-requires c κs =
     (record { old-fits = clock-delay-below (clockOf (s .args .self)) (s .pre); new-fits = in-range-below (k .one-way-of .result) inside })
 
 returns-2 : tie.Need-returns-2
-unfolding recordOneWay oneWayed
+unfolding recordOneWay oneWayUpdated
 returns-2 c =
     let k = c .before .before .before in
     let tm = k .before .before .before in
@@ -56,7 +56,7 @@ returns-2 c =
     rw (toZ-ofZ w64 (c .one-way-after .result) (record { sfits = c .one-way-after .ok }), tm .timing .given .1, ← delay, inside, next)
 
 returns-3 : tie.Need-returns-3
-unfolding recordOneWay oneWayed
+unfolding recordOneWay oneWayUpdated
 returns-3 c =
     let k = c .before .before in
     let tm = k .before .before .before in

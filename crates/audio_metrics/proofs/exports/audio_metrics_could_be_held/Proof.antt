@@ -1,6 +1,6 @@
 -- `audio_metrics::exports::audio_metrics_could_be_held` meets its contract: the answer of the state that was read. Assumes nothing.
 use mathlib.Core.Path.{ap, _∙_}
-use Rattle.model.specs.Receiver.{clockHeld}
+use Rattle.model.specs.Questions.{clockHeld}
 use borrow.Author.Needs.{needs}
 use Rattle.audio_metrics.proofs.exports.audio_metrics_could_be_held.Statement.{statement}
 use Rattle.audio_metrics.proofs.exports.audio_metrics_could_be_held.Tie as tie

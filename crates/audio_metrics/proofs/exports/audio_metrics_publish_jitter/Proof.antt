@@ -2,7 +2,7 @@
 use mathlib.Core.Path.{sym, ap, _∙_}
 use denote.Ref.{now}
 use Rattle.model.specs.Clock.{recordDepth}
-use Rattle.model.specs.Receiver.{clockHeld, depthAllowed}
+use Rattle.model.specs.Questions.{clockHeld, depthAllowed}
 use Rattle.audio_metrics.specs.Words.{clockWords}
 use Rattle.audio_metrics.proofs.Calls.{acted, numbers-refused, words-refused}
 use borrow.Author.Tests.{leb-true}

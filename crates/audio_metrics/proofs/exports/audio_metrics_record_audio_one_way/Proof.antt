@@ -3,7 +3,7 @@ use mathlib.Core.Path.{refl, sym, ap, _∙_}
 use mathlib.Core.Bool.{true}
 use denote.Ref.{now}
 use Rattle.model.specs.Clock.{recordOneWay}
-use Rattle.model.specs.Receiver.{clockHeld}
+use Rattle.model.specs.Questions.{clockHeld}
 use Rattle.audio_metrics.specs.Words.{clockWords}
 use Rattle.audio_metrics.proofs.Calls.{acted, words-refused}
 use borrow.Author.Needs.{needs}

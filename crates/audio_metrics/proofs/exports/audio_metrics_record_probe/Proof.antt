@@ -4,7 +4,7 @@ use mir.Syntax.{w64}
 use mir.ValLaws.{toZ-ofZ}
 use denote.Ref.{now}
 use Rattle.model.specs.Clock.{recordProbe}
-use Rattle.model.specs.Receiver.{clockHeld, probeAllowed}
+use Rattle.model.specs.Questions.{clockHeld, probeAllowed}
 use Rattle.audio_metrics.specs.Words.{clockWords}
 use Rattle.audio_metrics.proofs.Calls.{acted, numbers-refused, words-refused}
 use borrow.Author.Needs.{needs}

@@ -2,7 +2,7 @@
 use mathlib.Core.Path.{_≡_, refl, sym, _∙_, ap}
 use native.Mathlib.Omega.{arith}
 use Rattle.jitter_buffer.specs.View.{nextOf}
-use Rattle.jitter_buffer.specs.Promises.{NextFits}
+use Rattle.model.proofs.HeldKept.{NextFits}
 use Rattle.jitter_buffer.proofs.HeldKept.{WordsFit}
 use Rattle.jitter_buffer.proofs.Plays.{ready-fill, pop-played, pop-silent}
 use borrow.Author.Needs.{needs}
@@ -39,12 +39,11 @@ same-length c = search needs
 returns : tie.Need-returns
 returns c =
     let g = c .before .before .before .before .before .before .before .before .before .args in
-    let p = c .before .before .before .before .before .before .before .before .before .pre .0 in
-    let words : WordsFit (g .us .now) = λ i. c .before .before .before .before .before .before .before .slice-known2 .given i .fits in
-    let e = c .before .before .before .before .enum-told .given .1 in
-    let next : NextFits (nextOf (g .self .«next_sequence»)) = rw e tt in
     let o = c .before .before .pop-silence in
-    pop-silent (g .z) (g .self) (g .fs .now) (g .us .now) p next words e (g .out .now) (o .result) (o .last .1 .0) (c .before .before .before .before .before .before .before .before .before .pre .1) (o .ensures .0) (o .ensures .1)
+    record {
+      played = pop-silent (g .z) (g .self) (g .fs .now) (g .us .now) (c .before .before .before .before .enum-told .given .1) _ (o .result) (o .last .1 .0) (o .ensures .0) (o .ensures .1);
+      lent = record { floats = refl; words = refl };
+    }
 
 same-length-2 : tie.Need-same-length-2
 same-length-2 c = search needs
@@ -58,12 +57,12 @@ same-length-4 c = search needs
 returns-2 : tie.Need-returns-2
 returns-2 c =
     let g = c .before .before .before .before .before .before .before .before .before .before .before .before .before .before .before .before .args in
-    let p = c .before .before .before .before .before .before .before .before .before .before .before .before .before .before .before .before .pre .0 in
-    let words : WordsFit (g .us .now) = λ i. c .before .before .before .before .before .before .before .before .before .before .before .before .before .before .slice-known2 .given i .fits in
     let e = c .before .before .before .before .before .before .before .before .before .before .before .next .given .1 in
-    let next : NextFits (nextOf (g .self .«next_sequence»)) = rw e (omega (arith, c .before .before .before .before .before .before .before .before .before .before .known-told .given)) in
     let o = c .before .before .before .before .before .before .pop-filled in
-    pop-played (g .z) (g .self) (g .fs .now) (g .us .now) p next words _ e (g .out .now) (o .result) (o .last .1 .1 .0) (o .last .1 .1 .1 .0) (o .last .1 .1 .1 .1 .0) (c .before .before .before .before .before .before .before .before .before .before .before .before .before .before .before .before .pre .1) (o .ensures)
+    record {
+      played = pop-played (g .z) (g .self) (g .fs .now) (g .us .now) _ e _ (o .result) (o .last .1 .1 .0) (o .last .1 .1 .1 .0) (o .last .1 .1 .1 .1 .0) (o .ensures);
+      lent = record { floats = o .kept .1 .1 .0; words = o .kept .1 .1 .1 .0 };
+    }
 
 pub pop-samples-spec : {M : Type 1} → statement M
 pop-samples-spec =

@@ -26,19 +26,27 @@ shared-slice-read-result c = search needs
 
 returns : tie.Need-returns
 unfolding nextAsked
-returns c = rw (c .before .before .before .before .before .enum-told .given .1, eq-eqb _ _ (c .before .before .before .if1 .taken))
+returns c =
+    let e = c .before .before .before .before .before .enum-told .given .1 in
+    record { asked = rw (e, eq-eqb _ _ (c .before .before .before .if1 .taken)); next = rw e tt }
 
 returns-2 : tie.Need-returns-2
 unfolding nextAsked
-returns-2 c = rw (c .before .before .enum-told .given .1, ne-eqb _ _ (c .if1 .left))
+returns-2 c =
+    let e = c .before .before .enum-told .given .1 in
+    record { asked = rw (e, ne-eqb _ _ (c .if1 .left)); next = rw e tt }
 
 returns-3 : tie.Need-returns-3
 unfolding nextAsked
-returns-3 c = rw (c .before .before .before .next .given .1, eq-eqb _ _ (c .if2 .taken))
+returns-3 c =
+    let e = c .before .before .before .next .given .1 in
+    record { asked = rw (e, eq-eqb _ _ (c .if2 .taken)); next = rw e (omega (arith, c .before .before .known-told .given)) }
 
 returns-4 : tie.Need-returns-4
 unfolding nextAsked
-returns-4 c = rw (c .before .before .before .before .next .given .1, ne-eqb _ _ (c .before .if2 .left))
+returns-4 c =
+    let e = c .before .before .before .before .next .given .1 in
+    record { asked = rw (e, ne-eqb _ _ (c .before .if2 .left)); next = rw e (omega (arith, c .before .before .before .known-told .given)) }
 
 pub start-held-spec : {M : Type 1} → statement M
 start-held-spec =

@@ -23,7 +23,7 @@ returns-2 : tie.Need-returns-2
 returns-2 c =
     let written = c .before .before in
     let read = written .before .before .before in
-    reset-left _ (read .before .before .if1 .left) (read .buffer-of .ensures) (written .before .reset .ensures) (written .write-state .ensures)
+    reset-left _ (written .before .reset .result) (read .before .before .if1 .left) (read .buffer-of .ensures) (written .before .reset .ensures) (written .write-state .ensures)
 
 pub jitter-reset-spec : {M : Type 1} → statement M
 jitter-reset-spec =

@@ -3,29 +3,11 @@ use borrow.Author.Needs.{needs}
 use Rattle.tape_exports.proofs.numbers.put_setup.Statement.{statement}
 use Rattle.tape_exports.proofs.numbers.put_setup.Tie as tie
 
-cast-put-four : tie.Need-cast-put-four
-cast-put-four c = search needs
-
-cast-put-four-2 : tie.Need-cast-put-four-2
-cast-put-four-2 c = search needs
-
-cast-put-four-3 : tie.Need-cast-put-four-3
-cast-put-four-3 c = search needs
-
-cast-put-four-4 : tie.Need-cast-put-four-4
-cast-put-four-4 c = search needs
-
 put-four-requires : tie.Need-put-four-requires
 put-four-requires c κs = search needs
 
-cast-put : tie.Need-cast-put
-cast-put c = search needs
-
 put-requires : tie.Need-put-requires
 put-requires c κs = search needs
-
-cast-put-2 : tie.Need-cast-put-2
-cast-put-2 c = search needs
 
 put-requires-2 : tie.Need-put-requires-2
 put-requires-2 c κs = search needs
@@ -44,22 +26,16 @@ returns c =
     let ofB = c .before .before in
     let ofA = ofB .before .before .before .before in
     let height = ofA .before .before .before .before in
-    let width = height .before .before .before .before .before in
-    let four = width .before .before .before .before .before in
+    let width = height .before .before .before .before in
+    let four = width .before .before .before .before in
     rw (ofB .put-estimates2 .ensures, ofA .put-estimates .ensures, height .put2 .ensures, width .put .ensures, four .put-four .ensures)
 
 pub put-setup-spec : {M : Type 1} → statement M
 put-setup-spec =
     tie.close
     (tie.spec
-    cast-put-four
-    cast-put-four-2
-    cast-put-four-3
-    cast-put-four-4
     put-four-requires
-    cast-put
     put-requires
-    cast-put-2
     put-requires-2
     put-estimates-requires
     put-estimates-requires-2

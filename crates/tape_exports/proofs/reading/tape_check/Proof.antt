@@ -21,13 +21,13 @@ returns : tie.Need-returns
 returns c =
     let called = c .before .before in
     let bytes : List ℕ = called .before .before .args .tape .now in
-    rw (c .enum-told .given .1) at (verdict-handed {tape = bytes} (slice-are-bytes bytes (called .before .shared-slice-known .given)) (omega arith) (called .check .ensures))
+    rw (c .enum-told .given .1) at (verdict-handed {tape = bytes} (slice-are-bytes bytes (called .before .shared-slice-known .given)) (omega arith) (called .check .ensures .answers))
 
 returns-2 : tie.Need-returns-2
 returns-2 c =
     let called = c .before .before .before in
     let bytes : List ℕ = called .before .before .args .tape .now in
-    rw (c .before .v .given .1) at (verdict-handed {tape = bytes} (slice-are-bytes bytes (called .before .shared-slice-known .given)) (omega arith) (called .check .ensures))
+    rw (c .before .v .given .1) at (verdict-handed {tape = bytes} (slice-are-bytes bytes (called .before .shared-slice-known .given)) (omega arith) (called .check .ensures .answers))
 
 pub tape-check-spec : {M : Type 1} → statement M
 tape-check-spec = tie.close (tie.spec check-requires enum-told enum-known-v returns returns-2)

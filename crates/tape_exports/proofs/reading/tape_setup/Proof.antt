@@ -30,14 +30,14 @@ returns c =
     let called = held .before .before in
     let start = called .before .before .before in
     let bytes : List ℕ = start .args .tape .now in
-    setup-handed {tape = bytes} (slice-are-bytes bytes (called .before .before .shared-slice-known .given)) (omega arith) (called .setup-of .ensures) (held .s .given .1)
+    setup-handed {tape = bytes} (slice-are-bytes bytes (called .before .before .shared-slice-known .given)) (omega arith) (called .setup-of .ensures .answers) (held .s .given .1)
     (stored .put-setup .ensures)
 
 returns-2 : tie.Need-returns-2
 returns-2 c =
     let called = c .before .before .before in
     let bytes : List ℕ = called .before .before .before .args .tape .now in
-    bad-handed {tape = bytes} (slice-are-bytes bytes (called .before .before .shared-slice-known .given)) (omega arith) (called .setup-of .ensures) (c .before .s2 .given .1)
+    bad-handed {tape = bytes} (slice-are-bytes bytes (called .before .before .shared-slice-known .given)) (omega arith) (called .setup-of .ensures .answers) (c .before .s2 .given .1)
 
 pub tape-setup-spec : {M : Type 1} → statement M
 tape-setup-spec =

@@ -1,14 +1,11 @@
 -- `udp::packets::handle_audio_packet` meets its contract: a payload without samples leaves all as it was, another is the push. Assumes nothing.
-use mathlib.Core.Path.{_≡_, sym, _∙_}
+use mathlib.Core.Path.{_≡_, refl, sym, _∙_}
 use mathlib.Core.Bool.{true, false}
-use Prim.Native.Nat.{_+_}
-use native.Mathlib.Omega.{arith}
 use borrow.Author.Tests.{not-true, not-false}
-use Rattle.model.specs.Receiver.{mostCalls}
 use Rattle.model.specs.Samples.{holdsSamples}
-use Rattle.sizes.specs.View.{sizesOf}
+use Rattle.calls.specs.Views.{sizesOf}
 use Rattle.jitter_buffer.specs.View.{viewOf}
-use Rattle.udp.proofs.Audio.{audio-stops, audio-pushes, held-longer}
+use Rattle.udp.proofs.Audio.{audio-stops, audio-pushes}
 use borrow.Author.Needs.{needs}
 use Rattle.udp.proofs.packets.handle_audio_packet.Statement.{statement}
 use Rattle.udp.proofs.packets.handle_audio_packet.Tie as tie
@@ -24,7 +21,7 @@ returns c =
     let none-held : holdsSamples (g .payload .now) ≡ false = sym (k .holds-samples .ensures) ∙ not-true _ (c .if1 .taken) in
     record {
       step = λ d. audio-stops (sizesOf (g .z)) (g .sequence) (g .payload .now) b d none-held;
-      held = λ limit h. held-longer (sizesOf (g .z)) limit (limit + mostCalls) b (omega arith) h;
+      lent = record { floats = refl; words = refl };
     }
 
 push-packet-requires : tie.Need-push-packet-requires
@@ -45,7 +42,7 @@ returns-2 c =
     let held : holdsSamples (g .payload .now) ≡ true = sym (k .holds-samples .ensures) ∙ not-false _ (c .before .before .before .before .before .before .before .if1 .left) in
     record {
       step = λ d. audio-pushes (sizesOf (g .z)) (g .sequence) (g .payload .now) b d _ (p .ensures .view) held;
-      held = p .ensures .held;
+      lent = p .ensures .lent;
     }
 
 pub handle-audio-packet-spec : {M : Type 1} → statement M

@@ -67,7 +67,7 @@ returns-2 c =
     let long : length (p .last .1 .0) ≡ g .z .bins = p .kept .1 .0 ∙ length-take-le (g .z .bins) (g .rows .now) (omega (arith, s .pre .0 .behind, s .pre .0 .fits)) in
     let told = c .before .before .before .before .before .before .before .before .completed .given in
     let r = c .before .before .before .before .show-row in
-    chunk-completes-one (g .z) (g .screen) (g .work) (g .rows .now) (g .picture .now) (g .payload .now) (s .pre .0) (s .pre .1) (p .result) (p .last .1 .0) long (p .ensures) (told .0 .0) (r .result) (r .last .1 .1 .0) _ (told .1) (r .ensures)
+    chunk-completes-one (g .z) (g .screen) (g .work) (g .rows .now) (g .picture .now) (g .payload .now) (s .pre .0) (s .pre .1) (p .result) (p .last .1 .0) long (p .ensures) (told .0 .0) (r .result) (r .last .1 .1 .0) _ (told .1) (r .ensures) (r .kept .1 .1 .0) (r .kept .1 .1 .1 .1 .1 .0)
 
 pub handle-waterfall-packet-spec : {M : Type 1} → statement M
 handle-waterfall-packet-spec =

@@ -1,10 +1,10 @@
 -- `udp::packets::show_row` meets its contract, by what its four steps promise. Assumes nothing.
 use mathlib.Core.Path.{_≡_, refl, sym, _∙_, ap}
 use native.Mathlib.Omega.{arith}
-use Prim.Native.Nat.{_+_, _-_, _*_, _≤_}
-use lib.ListN.{length, take, drop, length-take, length-drop}
+use Prim.Native.Nat.{_≤_}
+use lib.ListN.{length, length-take, length-drop}
 use Rattle.model.proofs.SizeLaws.{Allowed, allowed}
-use Rattle.sizes.specs.View.{sizesOf}
+use Rattle.calls.specs.Views.{sizesOf}
 use Rattle.udp.proofs.Screens.{asked-lengths}
 use Rattle.udp.proofs.ShowRow.{smoothed-count, show-row-shows}
 use borrow.Author.Needs.{needs}
@@ -95,17 +95,14 @@ draw-row-db-requires c κs =
     let fits : s .args .n ≤ length (display .last .1 .0) = omega (arith, s .pre .0 .behind, s .pre .0 .fits, s .pre .2, spectrum .kept .0, display .kept .1 .0) in
     let count = smoothed-count _ (s .args .n) (smooth .result) _ _ (display .last .1 .0) (smooth .last .0) fits (smooth .ensures) in
     let a = allowed (sizesOf (s .args .z)) (s .pre .0 .allowed) in
-    let at = 2 * s .args .z .bins in
-    let long : length (take (at + smooth .result - at) (drop at (smooth .last .0))) ≡ s .args .n =
-    simp (length-take, length-drop) (omega (arith, count, s .pre .0 .behind, s .pre .0 .fits, s .pre .2, spectrum .kept .0, display .kept .1 .0, smooth .kept .0)) in
     record {
       some-columns = a .width;
       few-columns = a .widthMost;
       some-rows = a .height;
       few-rows = a .heightMost;
       whole = s .pre .0 .whole;
-      some-bins = omega (arith, long, s .pre .1);
-      few-bins = omega (arith, long, s .pre .2, a .binsMost);
+      some-bins = simp (length-take, length-drop) (omega (arith, count, s .pre, spectrum .kept .0, display .kept .1 .0, smooth .kept .0));
+      few-bins = simp (length-take, length-drop) (omega (arith, count, s .pre .2, a .binsMost));
     }
 
 same-length : tie.Need-same-length

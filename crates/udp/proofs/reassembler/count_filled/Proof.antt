@@ -1,5 +1,5 @@
 -- `udp::reassembler::count_filled` meets its contract: the two answers are the cases of `countedRow`. Assumes nothing.
-use mathlib.Core.Path.{_≡_, refl, sym, ap, _∙_}
+use Prim.Native.Nat.{_+_}
 use borrow.Author.Tests.{lt-ltb, le-ltb}
 use borrow.Author.Needs.{needs}
 use Rattle.udp.proofs.reassembler.count_filled.Statement.{statement}
@@ -11,10 +11,14 @@ add-filled : tie.Need-add-filled
 add-filled c = search needs
 
 returns : tie.Need-returns
-returns c = rw (lt-ltb _ _ (c .if1 .taken))
+returns c =
+    let g = c .before .before .args in
+    rw (lt-ltb (g .row .filled + g .n) (g .row .«total_bins») (c .if1 .taken))
 
 returns-2 : tie.Need-returns-2
-returns-2 c = rw (le-ltb _ _ (c .if1 .left))
+returns-2 c =
+    let g = c .before .before .args in
+    rw (le-ltb (g .row .filled + g .n) (g .row .«total_bins») (c .if1 .left))
 
 pub count-filled-spec : {M : Type 1} → statement M
 count-filled-spec = tie.close (tie.spec add-filled returns returns-2)

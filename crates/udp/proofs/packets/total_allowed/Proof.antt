@@ -1,9 +1,9 @@
--- `udp_checked::total_allowed` meets its contract. Assumes nothing.
+-- `udp::packets::total_allowed` meets its contract. Assumes nothing.
 use native.Mathlib.Omega.{arith}
-use Rattle.udp_checked.proofs.Asked.{no-total, total-left}
+use Rattle.udp.proofs.Asked.{no-total, total-left}
 use borrow.Author.Needs.{needs}
-use Rattle.udp_checked.proofs.total_allowed.Statement.{statement}
-use Rattle.udp_checked.proofs.total_allowed.Tie as tie
+use Rattle.udp.proofs.packets.total_allowed.Statement.{statement}
+use Rattle.udp.proofs.packets.total_allowed.Tie as tie
 
 returns : tie.Need-returns
 returns c = no-total _ _ (omega arith)
