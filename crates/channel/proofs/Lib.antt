@@ -1,0 +1,5 @@
+pub mod Sections
+pub mod Asking
+pub mod Fresh
+pub mod Sound
+pub mod Rows
