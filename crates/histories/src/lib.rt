@@ -1,0 +1,1 @@
+// Definitions and proofs only: the claim on every list of calls.

@@ -1,0 +1,191 @@
+-- Setup: its questions in their order, both pictures zeroed, and a view that is the model's fresh receiver; how far places reach, and the buffered
+-- amount as the model's. Assumes nothing.
+use mathlib.Core.Path.{_≡_, _∙_, ap}
+use mathlib.Core.Bool.{true, false, _&&_}
+use mathlib.Core.Option.{none, some}
+use mathlib.Core.List.{List}
+use Prim.Native.Nat.{ℕ, _+_, _-_, _*_, _≤_}
+use native.Mathlib.Nat.{add-zero, sub-zero}
+use native.Mathlib.Omega.{arith}
+use lib.ListN.{length, take, drop, replicate, length-replicate, length-drop}
+use lib.Seq.{take-all, drop-drop}
+use lib.Dec.{leb}
+use lib.Ieee.{Float}
+use borrow.Author.Tests.{leb-true, le-leb, lt-ltb}
+use Rattle.model.specs.Bytes.{part, placed}
+use Rattle.model.specs.Sizes.{sizesAllowed, mostWaiting, floatSection, wordSection, floatArea, wordArea}
+use Rattle.model.specs.JitterBuffer.{buffered}
+use Rattle.model.specs.Receiver.{fresh}
+use Rattle.model.specs.Questions.{firstNo, areasLong, estimatesFinite, setupQuestions, setUp, openedUnless, opened, notOpened}
+use Rattle.model.proofs.BoolLaws.{clash, second-of-both}
+use Rattle.model.proofs.ListLaws.{placed-length}
+use Rattle.calls.specs.declared.Side.{Side}
+use Rattle.calls.specs.declared.Side.the-variants.{A, B}
+use Rattle.calls.specs.declared.Sizes.{Sizes}
+use Rattle.calls.specs.declared.Estimates.{Estimates}
+use Rattle.calls.specs.Views.{sizesOf, modelEstimates}
+use Rattle.sizes.specs.View.{queueAt}
+use Rattle.sizes.proofs.Bounds.{float-section-bound, word-section-bound}
+use Rattle.areas.proofs.Placed.{part-before, part-within}
+use Rattle.jitter_buffer.proofs.Places.{packets-length}
+use Rattle.jitter_buffer.proofs.FillView.{queue-length}
+use Rattle.channel.specs.View.{rowAt, channelIn}
+use Rattle.channel.proofs.Sections.{float-section-is, word-section-is}
+use Rattle.receiver.specs.declared.Receiver.{Receiver}
+use Rattle.receiver.specs.declared.asking.Verdict.the-variants.{Yes, No}
+use Rattle.receiver.specs.declared.readings.Buffered.the-variants.{Samples}
+use Rattle.receiver.specs.View.{floatStart, wordStart, channelAt, stateOf, lentOf}
+use Rattle.receiver.specs.Promises.{modelSetup, Ready}
+use Rattle.receiver.specs.Setup.{SetupReady, SetupAsked, picturesZeroed, FreshReceiver}
+use Rattle.receiver.specs.Readings.{bufferedIn}
+use Rattle.receiver.proofs.StateQuestions.{float-area-is, word-area-is}
+
+-- ---- questions 1, 2 and 5
+
+module _ (z : Sizes) (a b : Estimates) (fs : List Float) (us : List ℕ) where
+  no-asked : (n : ℕ) → some n ≡ firstNo (setupQuestions (lentOf fs us) (modelSetup z a b)) → SetupAsked z a b fs us (No n)
+  no-asked n is = record { asked = is; ready = λ yes. clash (cc) }
+
+  pub setup-sizes-refused : sizesAllowed (sizesOf z) ≡ false → SetupAsked z a b fs us (No 1)
+  unfolding setupQuestions firstNo
+  setup-sizes-refused one = no-asked 1 (rw one)
+
+  module _ (one : sizesAllowed (sizesOf z) ≡ true) where
+    pub setup-areas-refused : areasLong (lentOf fs us) (sizesOf z) ≡ false → SetupAsked z a b fs us (No 2)
+    unfolding setupQuestions firstNo
+    setup-areas-refused two = no-asked 2 (rw (one, two))
+
+    module _ (two : areasLong (lentOf fs us) (sizesOf z) ≡ true) where
+      pub setup-estimates-refused : estimatesFinite (modelEstimates a) && estimatesFinite (modelEstimates b) ≡ false → SetupAsked z a b fs us (No 5)
+      unfolding setupQuestions firstNo
+      setup-estimates-refused five = no-asked 5 (rw (one, two, five))
+
+      words-long : wordArea (sizesOf z) ≤ length us
+      unfolding areasLong
+      words-long = leb-true _ _ (second-of-both (leb (floatArea (sizesOf z)) (length fs)) (leb (wordArea (sizesOf z)) (length us)) two)
+
+      pub setup-all-yes : estimatesFinite (modelEstimates a) && estimatesFinite (modelEstimates b) ≡ true → SetupAsked z a b fs us Yes
+      unfolding setupQuestions firstNo
+      setup-all-yes five = record { asked = rw (one, two, five); ready = λ yes. record { allowed = one; words = words-long } }
+
+-- ---- the pictures
+
+module _ (z : Sizes) (us : List ℕ) (ready : SetupReady z us) where
+  abbrev pixels : ℕ
+  pixels = z .width * z .height
+
+  abbrev zeros : List ℕ
+  zeros = replicate pixels 0
+
+  abbrev firstZeroed : List ℕ
+  firstZeroed = placed (mostWaiting (sizesOf z)) zeros us
+
+  zeros-length : length zeros ≡ pixels
+  zeros-length = length-replicate {A = ℕ} pixels 0
+
+  pub first-fits : mostWaiting (sizesOf z) + z .width * z .height ≤ length us
+  first-fits = omega (arith, ready .words, word-area-is (sizesOf z), word-section-is (sizesOf z))
+
+  first-length : length firstZeroed ≡ length us
+  first-length = placed-length (mostWaiting (sizesOf z)) zeros us (rw zeros-length first-fits)
+
+  second-fits : wordSection (sizesOf z) + mostWaiting (sizesOf z) + z .width * z .height ≤ length firstZeroed
+  second-fits = omega (arith, first-length, ready .words, word-area-is (sizesOf z), word-section-is (sizesOf z))
+
+  zeroed-length : length (picturesZeroed z us) ≡ length us
+  zeroed-length = placed-length (wordSection (sizesOf z) + mostWaiting (sizesOf z)) zeros firstZeroed (rw zeros-length second-fits) ∙ first-length
+
+  -- the two writes, one after the other
+  pub both-zeroed : (start at : ℕ) (us₁ us₂ : List ℕ) → start ≡ wordSection (sizesOf z) → at ≡ mostWaiting (sizesOf z)
+      → us₁ ≡ placed at (replicate (z .width * z .height) 0) us
+      → us₂ ≡ placed (start + at) (replicate (z .width * z .height) 0) us₁
+      → us₂ ≡ picturesZeroed z us
+  both-zeroed start at us₁ us₂ s a first second = rw (second, first, s, a)
+
+  -- what was written is read back
+  written : (at : ℕ) (xs : List ℕ) → at + pixels ≤ length xs → part at pixels (placed at zeros xs) ≡ zeros
+  written at xs fits =
+      let read : part (at + 0) pixels (placed at zeros xs) ≡ take pixels zeros = part-within 0 at zeros xs 0 pixels (omega (arith, zeros-length, fits)) (omega (arith, zeros-length)) in
+      rw (add-zero at) at read ∙ take-all pixels zeros (omega (arith, zeros-length))
+
+  a-zeroed : part (mostWaiting (sizesOf z)) (z .width * z .height) (picturesZeroed z us) ≡ replicate (z .width * z .height) 0
+  a-zeroed =
+      part-before 0 (wordSection (sizesOf z) + mostWaiting (sizesOf z)) zeros firstZeroed (mostWaiting (sizesOf z)) pixels (omega (arith, zeros-length, second-fits))
+      (omega (arith, word-section-is (sizesOf z)))
+      ∙ written (mostWaiting (sizesOf z)) us first-fits
+
+  b-zeroed : part (mostWaiting (sizesOf z)) (z .width * z .height) (drop (wordSection (sizesOf z)) (picturesZeroed z us)) ≡ replicate (z .width * z .height) 0
+  b-zeroed =
+      ap (take pixels) (drop-drop (mostWaiting (sizesOf z)) (wordSection (sizesOf z)) (picturesZeroed z us))
+      ∙ written (wordSection (sizesOf z) + mostWaiting (sizesOf z)) firstZeroed second-fits
+
+  -- ---- the view
+
+  module _ (a b : Estimates) (fs : List Float) (r : Receiver) (made : FreshReceiver z a b r) where
+    state-fresh : stateOf r fs (picturesZeroed z us) ≡ fresh (modelSetup z a b)
+    unfolding fresh
+    state-fresh =
+        rw (
+          made .sizes,
+          made .calls,
+          made .incoming,
+          made .audio,
+          made .waterfall,
+          made .clock,
+          made .channelA z fs (picturesZeroed z us) a-zeroed,
+          made .channelB z (drop (floatSection (sizesOf z)) fs) (drop (wordSection (sizesOf z)) (picturesZeroed z us)) b-zeroed,
+        )
+
+    pub setup-opened : none ≡ firstNo (setupQuestions (lentOf fs us) (modelSetup z a b))
+        → (setUp (lentOf fs us) (modelSetup z a b) ≡ opened (stateOf r fs (picturesZeroed z us)))
+        × (stateOf r fs (picturesZeroed z us) ≡ fresh (modelSetup z a b))
+        × (length (picturesZeroed z us) ≡ length us)
+    unfolding setUp openedUnless
+    setup-opened none-refuse = (rw (← none-refuse, state-fresh), state-fresh, zeroed-length)
+
+pub setup-refused : (z : Sizes) (a b : Estimates) (fs : List Float) (us : List ℕ) (n : ℕ)
+    → some n ≡ firstNo (setupQuestions (lentOf fs us) (modelSetup z a b)) → setUp (lentOf fs us) (modelSetup z a b) ≡ notOpened n
+unfolding setUp openedUnless
+setup-refused z a b fs us n refuses = rw (← refuses)
+
+-- ---- places
+
+module _ (z : Sizes) (one : sizesAllowed (sizesOf z) ≡ true) where
+  pub float-start-bound : (side : Side) → floatStart (sizesOf z) side ≤ 401408
+  float-start-bound A = omega arith
+  float-start-bound B = float-section-bound (sizesOf z) one
+
+  pub word-start-bound : (side : Side) → wordStart (sizesOf z) side ≤ 16912383
+  word-start-bound A = omega arith
+  word-start-bound B = word-section-bound (sizesOf z) one
+
+  pub row-at-bound : rowAt (sizesOf z) ≤ 401408
+  row-at-bound = omega (arith, float-section-bound (sizesOf z) one, float-section-is (sizesOf z))
+
+-- ---- the buffered amount
+
+-- of a receiver that questions 1 to 4 let through it is the model's, of that channel's buffer
+module _ (r : Receiver) (fs : List Float) (us : List ℕ) (ready : Ready r fs us) where
+  float-start-few : (side : Side) → floatStart (sizesOf (r .sizes)) side ≤ floatSection (sizesOf (r .sizes))
+  float-start-few A = omega arith
+  float-start-few B = omega arith
+
+  pub buffered-reads : (side : Side)
+      → bufferedIn (r .sizes) (channelAt side r .jitter)
+      ≡ Samples
+      (buffered (sizesOf (r .sizes))
+      (channelIn (r .sizes) (channelAt side r) (drop (floatStart (sizesOf (r .sizes)) side) fs) (drop (wordStart (sizesOf (r .sizes)) side) us) .buffer))
+  unfolding buffered
+  buffered-reads side =
+      let z = sizesOf (r .sizes) in
+      let j = channelAt side r .jitter in
+      let long : queueAt z + j .«playout_len» ≤ length (drop (floatStart z side) fs) =
+      simp length-drop (omega (arith, ready .inside side .queue, float-start-few side, ready .floats, float-area-is z, float-section-is z)) in
+      rw (
+        ready .allowed,
+        le-leb _ _ (ready .inside side .waiting),
+        lt-ltb _ _ (ready .inside side .queue),
+        queue-length (r .sizes) j (drop (floatStart z side) fs) (drop (wordStart z side) us) 0 long,
+        packets-length (r .sizes .packet) 0 (j .«pending_len» - 0) (drop (floatStart z side) fs) (drop (wordStart z side) us),
+        sub-zero,
+      )

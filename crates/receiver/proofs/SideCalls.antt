@@ -1,0 +1,66 @@
+-- A call on one channel: the model's call on that side, and the other channel is read as before. Assumes nothing.
+use mathlib.Core.Path.{_≡_, refl, sym, _∙_, ap}
+use mathlib.Core.Bool.{Bool, true, false}
+use mathlib.Core.Option.{none, some}
+use mathlib.Core.List.{List}
+use Prim.Native.Nat.{ℕ, _+_, _-_, _*_, _≤_, _<_}
+use native.Mathlib.Omega.{arith}
+use lib.ListN.{length, take, drop, length-drop}
+use lib.Seq.{take-all, drop-drop}
+use lib.Ieee.{Float}
+use borrow.Rule.Slice.PartMut.{putMid, take-put, same-len-mid}
+use Rattle.model.specs.Sizes.{mostWaiting, floatSection, wordSection}
+use Rattle.model.specs.Receiver as Model
+use Rattle.model.specs.Receiver.{Call, State, StepResult, accepted, refused, isAccepted}
+use Rattle.model.specs.Questions.{mostCalls, mostAdded, firstNo, ownQuestions}
+use Rattle.model.specs.Step.{ChannelResult, onSide, changes, oneCallMore, accept}
+use Rattle.model.specs.WholeList.{CallBytes}
+use Rattle.calls.specs.declared.Side.{Side}
+use Rattle.calls.specs.declared.Side.the-variants.{A, B}
+use Rattle.calls.specs.Views.{modelSide, sizesOf}
+use Rattle.jitter_buffer.proofs.HeldKept.{WordsFit}
+use Rattle.channel.specs.declared.Channel.{Channel}
+use Rattle.channel.specs.View.{rowAt, channelIn, Inside}
+use Rattle.channel.specs.Promises as Channel
+use Rattle.channel.specs.Promises.{BehindKept}
+use Rattle.channel.proofs.Sections.{float-section-is, word-section-is, channel-reads}
+use Rattle.receiver.specs.declared.Receiver.{Receiver}
+use Rattle.receiver.specs.View.{floatStart, wordStart, channelAt, stateOf}
+use Rattle.receiver.specs.Fields.{counted, channelSet}
+use Rattle.receiver.specs.Promises.{Called, Ready, SidesReady, SideTaken}
+use Rattle.receiver.proofs.StateQuestions.{float-area-is, word-area-is}
+use Rattle.receiver.proofs.CallLaws.{accepted-called}
+
+abbrev pub otherSide : Side → Side
+otherSide A = B
+otherSide B = A
+
+-- a channel's view, over the areas from where its sections begin
+abbrev pub channelOn : Side → Receiver → List Float → List ℕ → Model.Channel
+channelOn side r fs us = channelIn (r .sizes) (channelAt side r) (drop (floatStart (sizesOf (r .sizes)) side) fs) (drop (wordStart (sizesOf (r .sizes)) side) us)
+
+-- ---- the model's side
+
+pub side-step : (side : Side) (f : Model.Channel → ChannelResult) (r : Receiver) (c : Channel) (fs fs′ : List Float) (us us′ : List ℕ) (a : Model.Answer)
+    → f (channelOn side r fs us)
+    ≡ record { after = channelIn (r .sizes) c (drop (floatStart (sizesOf (r .sizes)) side) fs′) (drop (wordStart (sizesOf (r .sizes)) side) us′); answer = a }
+    → channelOn (otherSide side) r fs us ≡ channelOn (otherSide side) r fs′ us′
+    → onSide (modelSide side) f (stateOf r fs us) ≡ record { after = stateOf (channelSet side c r) fs′ us′; answer = a }
+unfolding onSide
+side-step A f r c fs fs′ us us′ a own other = rw (own, other)
+side-step B f r c fs fs′ us us′ a own other = rw (own, other)
+
+module _ (r : Receiver) (fs : List Float) (us : List ℕ) (ready : Ready r fs us) (words : WordsFit us) where
+  -- a call on one side that its own questions let through, counted
+  pub side-called : (c : Call) (side : Side) (f : Model.Channel → ChannelResult) (a : Model.Answer) (r′ : Receiver) (fs′ : List Float) (us′ : List ℕ)
+      → CallBytes c → firstNo (ownQuestions (sizesOf (r .sizes)) c) ≡ none → isAccepted a ≡ true
+      → changes c (stateOf r fs us) ≡ onSide (modelSide side) f (stateOf r fs us)
+      → onSide (modelSide side) f (stateOf r fs us) ≡ record { after = stateOf r′ fs′ us′; answer = a }
+      → length fs′ ≡ length fs → length us′ ≡ length us → Called c r fs us a (counted r′) fs′ us′
+  unfolding accept oneCallMore
+  side-called c side f a r′ fs′ us′ bytes own accepts is done float-length word-length =
+      accepted-called r fs us ready words c a (counted r′) fs′ us′ bytes own accepts (rw (is, done)) float-length word-length
+
+pub channel-set-calls : (side : Side) (c : Channel) (r : Receiver) → r .calls < mostCalls → channelSet side c r .calls < mostCalls
+channel-set-calls A c r few = few
+channel-set-calls B c r few = few

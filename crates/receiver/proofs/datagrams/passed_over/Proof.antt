@@ -1,0 +1,35 @@
+-- `receiver::datagrams::passed_over` meets its contract. Assumes nothing.
+use mathlib.Core.Path.{_≡_, refl, sym, _∙_, ap}
+use Rattle.jitter_buffer.proofs.HeldKept.{WordsFit}
+use Rattle.receiver.proofs.DatagramCalls.{bytes-are, incoming-fits, passed-called}
+use borrow.Author.Needs.{needs}
+use Rattle.receiver.proofs.datagrams.passed_over.Statement.{statement}
+use Rattle.receiver.proofs.datagrams.passed_over.Tie as tie
+
+count-header-requires : tie.Need-count-header-requires
+count-header-requires c κs =
+    let s = c .before .before .before .before .before in
+    let g = s .args in
+    incoming-fits (g .r) (g .fs .now) (g .us .now) (s .pre .0 .ready)
+
+count-call-requires : tie.Need-count-call-requires
+count-call-requires c κs =
+    let s = c .before .before .before .before .before .before in
+    let g = s .args in
+    rw (c .count-header .ensures) (s .pre .0 .ready .calls)
+
+returns : tie.Need-returns
+returns c =
+    let s = c .before .before .before .before .before .before .before in
+    let g = s .args in
+    let words : WordsFit (g .us .now) = λ i. c .before .before .before .before .before .shared-slice-known2 .given i .fits in
+    let are = bytes-are (g .bytes .now) (c .before .before .before .before .shared-slice-known3 .given) in
+    rw (c .count-call .ensures, c .before .count-header .ensures) (passed-called (g .r) (g .fs .now) (g .us .now) (g .bytes .now) (g .header) (s .pre .0) words are (s .pre .1))
+
+pub passed-over-spec : {M : Type 1} → statement M
+passed-over-spec =
+    tie.close
+    (tie.spec
+    count-header-requires
+    count-call-requires
+    returns)

@@ -1,0 +1,5 @@
+pub mod View
+pub mod Fields
+pub mod Promises
+pub mod Setup
+pub mod Readings

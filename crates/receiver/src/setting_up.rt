@@ -1,0 +1,116 @@
+// Setup: questions 1, 2 and 5, then both pictures zeroed and a fresh receiver.
+ghost use mathlib.Core.Path.{_≡_};
+ghost use mathlib.Core.Bool.{true, _&&_};
+ghost use Rattle.model.specs.Sizes.{sizesAllowed};
+ghost use Rattle.model.specs.Questions.{areasLong, estimatesFinite};
+ghost use Rattle.calls.specs.Views.{sizesOf, modelEstimates};
+ghost use Rattle.receiver.specs.View.{lentOf};
+ghost use Rattle.receiver.specs.Promises.{SetupDone};
+ghost use Rattle.receiver.specs.Setup.{SetupReady, SetupAsked, picturesZeroed, FreshReceiver};
+use crate::Receiver;
+use crate::SetUp;
+use crate::asking::Verdict;
+use audio_metrics::AudioMetrics;
+use calls::Estimates;
+use calls::Sizes;
+use channel::Channel;
+use udp::StreamCounts;
+
+// Question 2: whether both areas are long enough.
+fn areas_long(z: Sizes, fs: &[f32], us: &[u32]) -> bool
+    requires { ⌜ sizesAllowed (sizesOf z) ≡ true ⌝ }
+    ensures { λ v. ⌜ v ≡ areasLong (lentOf (now (fs .entry)) (now (us .entry))) (sizesOf z) ⌝ }
+{
+    if fs.len() < sizes::float_area(z) {
+        return false;
+    }
+    sizes::word_area(z) <= us.len()
+}
+
+// Question 5 of one channel's estimates: whether each is the pattern of a finite float.
+fn estimates_finite(e: Estimates) -> bool
+    ensures { λ v. ⌜ v ≡ estimatesFinite (modelEstimates e) ⌝ }
+{
+    if !floats::is_finite(floats::from_bits(e.top)) {
+        return false;
+    }
+    if !floats::is_finite(floats::from_bits(e.floor)) {
+        return false;
+    }
+    floats::is_finite(floats::from_bits(e.range))
+}
+
+// Question 5 of both channels' estimates.
+fn both_finite(a: Estimates, b: Estimates) -> bool
+    ensures { λ v. ⌜ v ≡ estimatesFinite (modelEstimates a) && estimatesFinite (modelEstimates b) ⌝ }
+{
+    if !estimates_finite(a) {
+        return false;
+    }
+    estimates_finite(b)
+}
+
+// Questions 1, 2 and 5, in their order.
+fn setup_asked(z: Sizes, a: Estimates, b: Estimates, fs: &[f32], us: &[u32]) -> Verdict
+    ensures { λ v. ⌜ SetupAsked z a b (now (fs .entry)) (now (us .entry)) v ⌝ }
+{
+    if !sizes::allowed(z) {
+        return Verdict::No(1);
+    }
+    let long = areas_long(z, fs, us);
+    let finite = both_finite(a, b);
+    if !long {
+        return Verdict::No(2);
+    }
+    if !finite {
+        return Verdict::No(5);
+    }
+    Verdict::Yes
+}
+
+// Both pictures zeroed. The rest of the area stays.
+fn zero_pictures(z: Sizes, us: &mut [u32])
+    requires { ⌜ SetupReady z (now us) ⌝ }
+    ensures { λ v. ⌜ now (us .exit) ≡ picturesZeroed z (now (us .entry)) ⌝ }
+{
+    let start = sizes::word_section(z);
+    let at = sizes::most_waiting(z);
+    let n = z.width * z.height;
+    areas::fill_u32(us, at, n, 0);
+    areas::fill_u32(us, start + at, n, 0);
+}
+
+// The receiver before its first call.
+fn fresh_receiver(z: Sizes, a: Estimates, b: Estimates) -> Receiver
+    ensures { λ v. ⌜ FreshReceiver z a b v ⌝ }
+{
+    let audio = StreamCounts::new();
+    let waterfall = StreamCounts::new();
+    let first = Channel::new(a);
+    let second = Channel::new(b);
+    let clock = AudioMetrics::new();
+    Receiver {
+        sizes: z,
+        calls: 0,
+        incoming: 0,
+        audio,
+        waterfall,
+        a: first,
+        b: second,
+        clock,
+    }
+}
+
+// A receiver of these sizes and estimates, over areas that may hold anything. Only the u32 area is written.
+pub fn setup(z: Sizes, a: Estimates, b: Estimates, fs: &[f32], us: &mut [u32]) -> SetUp
+    ensures { λ v. ⌜ SetupDone z a b (now (fs .entry)) (now (us .entry)) v (now (us .exit)) ⌝ }
+{
+    let verdict = setup_asked(z, a, b, fs, us);
+    match verdict {
+        Verdict::No(n) => SetUp::Refused(n),
+        Verdict::Yes => {
+            zero_pictures(z, us);
+            SetUp::Ready(fresh_receiver(z, a, b))
+        }
+    }
+}

@@ -1,0 +1,96 @@
+// A channel's reset and its settings. They leave both areas as they are.
+ghost use mathlib.Core.Path.{_≡_};
+ghost use mathlib.Core.List.{[]};
+ghost use Rattle.model.specs.Receiver.{reset, set};
+ghost use Rattle.model.specs.Questions.{settingsFinite};
+ghost use Rattle.calls.specs.Views.{modelSide, modelSettings};
+ghost use Rattle.receiver.specs.View.{answerOf};
+ghost use Rattle.receiver.specs.Promises.{Ready, Called};
+use crate::Answer;
+use crate::Answered;
+use crate::Receiver;
+use crate::asking::Verdict;
+use crate::asking::asked;
+use crate::counted::count_call;
+use crate::sides::channel_of;
+use crate::sides::with_channel;
+use calls::Settings;
+use calls::Side;
+
+// Question 5 of settings: whether each is the pattern of a finite float.
+fn settings_finite(x: Settings) -> bool
+    ensures { λ v. ⌜ v ≡ settingsFinite (modelSettings x) ⌝ }
+{
+    if !floats::is_finite(floats::from_bits(x.top)) {
+        return false;
+    }
+    if !floats::is_finite(floats::from_bits(x.range)) {
+        return false;
+    }
+    if !floats::is_finite(floats::from_bits(x.zoom)) {
+        return false;
+    }
+    floats::is_finite(floats::from_bits(x.smoothing))
+}
+
+// A reset that questions 1 to 4 let through.
+fn cleared(r: Receiver, fs: &[f32], us: &[u32], side: Side) -> Answered
+    requires { ⌜ Ready r (now fs) (now us) ⌝ }
+    ensures { λ v. ⌜ Called (reset (modelSide side)) r (now (fs .entry)) (now (us .entry)) (answerOf (v .answer) []) (v .receiver) (now (fs .entry)) (now (us .entry)) ⌝ }
+{
+    let before = channel_of(r, side);
+    let channel = before.reset();
+    Answered {
+        receiver: count_call(with_channel(r, side, channel)),
+        answer: Answer::Accepted,
+    }
+}
+
+// Settings that questions 1 to 4 let through.
+fn adjusted(r: Receiver, fs: &[f32], us: &[u32], side: Side, settings: Settings) -> Answered
+    requires { ⌜ Ready r (now fs) (now us) ⌝ }
+    ensures { λ v. ⌜ Called (set (modelSide side) (modelSettings settings)) r (now (fs .entry)) (now (us .entry)) (answerOf (v .answer) []) (v .receiver) (now (fs .entry)) (now (us .entry)) ⌝ }
+{
+    if !settings_finite(settings) {
+        return Answered {
+            receiver: r,
+            answer: Answer::Refused(5),
+        };
+    }
+    let before = channel_of(r, side);
+    let channel = before.set(settings);
+    Answered {
+        receiver: count_call(with_channel(r, side, channel)),
+        answer: Answer::Accepted,
+    }
+}
+
+impl Receiver {
+    // Clears a channel's jitter buffer, but for its largest buffered amount.
+    pub fn reset(self, fs: &[f32], us: &[u32], side: Side) -> Answered
+        ensures { λ v. ⌜ Called (reset (modelSide side)) self (now (fs .entry)) (now (us .entry)) (answerOf (v .answer) []) (v .receiver) (now (fs .entry)) (now (us .entry)) ⌝ }
+    {
+        let verdict = asked(self, fs, us);
+        match verdict {
+            Verdict::No(n) => Answered {
+                receiver: self,
+                answer: Answer::Refused(n),
+            },
+            Verdict::Yes => cleared(self, fs, us, side),
+        }
+    }
+
+    // New settings of a channel. Its estimates stay.
+    pub fn set(self, fs: &[f32], us: &[u32], side: Side, settings: Settings) -> Answered
+        ensures { λ v. ⌜ Called (set (modelSide side) (modelSettings settings)) self (now (fs .entry)) (now (us .entry)) (answerOf (v .answer) []) (v .receiver) (now (fs .entry)) (now (us .entry)) ⌝ }
+    {
+        let verdict = asked(self, fs, us);
+        match verdict {
+            Verdict::No(n) => Answered {
+                receiver: self,
+                answer: Answer::Refused(n),
+            },
+            Verdict::Yes => adjusted(self, fs, us, side, settings),
+        }
+    }
+}
