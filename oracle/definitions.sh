@@ -86,7 +86,11 @@ digest x cs =
 ANTT
 run definitions "$seed" "$count" >> "$module"
 if ! rt check "$work/model" > "$work/log" 2>&1; then
-  grep -q 'error: `session-' "$work/log" || { tail -n 5 "$work/log"; echo "could not be run"; exit 2; }
+  if ! grep -q 'error: `session-' "$work/log" || grep -qE 'not in scope|not admitted' "$work/log"; then
+    tail -n 5 "$work/log"
+    echo "could not be run"
+    exit 2
+  fi
   grep 'error: `session-' "$work/log" | cut -c1-400
   echo "not equal, seed $seed"
   exit 1

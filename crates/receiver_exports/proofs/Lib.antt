@@ -1,0 +1,4 @@
+pub mod Stored
+pub mod ClockBack
+pub mod Exporting
+pub mod ReadBack

@@ -1,0 +1,34 @@
+-- Words stored one after the other. Assumes nothing.
+use Prim.Native.Nat.{ℕ, suc, _+_, _-_, _≤_, _<_}
+use mathlib.Core.Path.{_≡_, refl, sym, _∙_, ap}
+use mathlib.Core.List.{List, [], _∷_, _++_}
+use native.Mathlib.Nat.{add-zero}
+use native.Mathlib.Numerals.{add-one}
+use native.Mathlib.Omega.{arith}
+use lib.ListN.{length, take, drop, set, getD, length-take, length-drop}
+use lib.Seq.{sets, take-suc, take-all}
+
+-- one word more
+sets-behind : (w : List ℕ) (at : ℕ) (xs : List ℕ) (x : ℕ) → sets w at (xs ++ (x ∷ [])) ≡ set (sets w at xs) (at + length xs) x
+sets-behind w at [] x = ap (λ (i : ℕ). set w i x) (sym (add-zero at))
+sets-behind w at (y ∷ xs) x = sets-behind (set w at y) (suc at) xs x ∙ ap (λ (i : ℕ). set (sets (set w at y) (suc at) xs) i x) (omega arith)
+
+pub sets-one-more : (w : List ℕ) (at : ℕ) (xs : List ℕ) (i : ℕ) → i < length xs → set (sets w at (take i xs)) (at + i) (getD xs i 0) ≡ sets w at (take (i + 1) xs)
+sets-one-more w at xs i h =
+    let long : length (take i xs) ≡ i = simp length-take (omega arith) in
+    let behind = rw long at (sets-behind w at (take i xs) (getD xs i 0)) in
+    rw (add-one, take-suc xs i 0) (sym behind)
+
+-- the words from a place on
+pub rest-is : (w : List ℕ) (at : ℕ) → take (length w - at) (drop at w) ≡ drop at w
+rest-is w at = take-all (length w - at) (drop at w) (omega (arith, length-drop at w))
+
+sets-append : (w : List ℕ) (at : ℕ) (xs ys : List ℕ) → sets (sets w at xs) (at + length xs) ys ≡ sets w at (xs ++ ys)
+sets-append w at [] ys = ap (λ (i : ℕ). sets w i ys) (add-zero at)
+sets-append w at (x ∷ xs) ys = ap (λ (i : ℕ). sets (sets (set w at x) (suc at) xs) i ys) (omega arith) ∙ sets-append (set w at x) (suc at) xs ys
+
+-- words stored right behind the first k
+pub then : (w xs : List ℕ) {v v′ ys zs : List ℕ} (k : ℕ) → length xs ≡ k → v ≡ sets w 0 xs → v′ ≡ sets v k zs → zs ≡ ys → v′ ≡ sets w 0 (xs ++ ys)
+then w xs {ys = ys} k long before stored same =
+    let at-end : 0 + length xs ≡ k = omega arith in
+    (rw (before, same) at stored) ∙ (rw at-end at (sets-append w 0 xs ys))

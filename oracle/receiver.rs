@@ -1,0 +1,645 @@
+// Holds the receiver against the original: random sessions of setup and the eight calls on both channels, and after each
+// call the answer and everything that a receiver holds. Then states of every kind, where the answer is held against a
+// second writing of the questions, and after a refusal every word.
+// Arguments: a seed, the number of sessions, and their sizes: small, set or largest. See receiver.sh.
+#![allow(warnings)]
+include!("rigflow.rs");
+mod original;
+mod random;
+mod receiver_side;
+mod udp_sender;
+
+use audio_metrics::AudioMetrics;
+use original::{Original, Settings, FIRST_SETTINGS};
+use random::Random;
+use receiver_side::{setup_verdict, Call, Ours, Setup, Sizes, BOUND, CALLS, CLAUSES, CLOCK, DEPTH, HIGH, INCOMING, LOW, WORDS};
+use udp_sender::{header, level, not_finite, one_in, payload, pick, settings, spoil, values, Chunk, Sender, Values};
+use std::fmt::Debug;
+use ui::layout::{WATERFALL_IMAGE_HEIGHT as HEIGHT, WATERFALL_IMAGE_WIDTH as WIDTH};
+
+struct Seen {
+    calls: usize,
+    refused: usize,
+    rows: usize,
+    longest: usize,
+    // changed states: accepted, and refused by each number
+    accepted: usize,
+    by_number: [usize; 10],
+    by_clause: [usize; CLAUSES.len()],
+    short: usize,
+    setups: [usize; 6],
+}
+
+struct Session {
+    number: usize,
+    call: usize,
+    ours: Ours,
+    original: Original,
+    // the same chunks at smoothing 0, so that its smoothing buffer is the last completed row
+    plain: Original,
+    clock: AudioMetrics,
+    clock_words: [u64; 14],
+    // the samples that plays found short, since reset
+    filled: [u64; 2],
+    sender: [Sender; 2],
+    settings: [Settings; 2],
+    // of the streams 1 to 4, and the last ones of 1 and 2
+    sequence: [u32; 4],
+    last: [Option<u32>; 2],
+}
+
+fn same(a: f32, b: f32) -> bool {
+    a.to_bits() == b.to_bits() || a.is_nan() && b.is_nan()
+}
+
+fn pattern(x: f32) -> u64 {
+    if x.is_nan() { 0x7fc0_0000 } else { x.to_bits() as u64 }
+}
+
+// a number that the original keeps and no reading shows, in the original as text
+fn kept(text: &str, name: &str) -> u64 {
+    let at = text.find(&format!(" {name}: ")).unwrap() + name.len() + 3;
+    text[at..].split([',', ' ']).next().unwrap().parse::<i64>().unwrap() as u64
+}
+
+fn clock_words(m: &AudioMetrics) -> [u64; 14] {
+    let text = format!("{m:?}");
+    let timing = m.clock_offset_ms().is_some() as u64;
+    let one_way = m.rx_one_way_ms().is_some() as u64;
+    let there = |flag: u64, name: &str| if flag == 1 { kept(&text, name) } else { 0 };
+    [
+        timing,
+        there(timing, "offset_ns"),
+        there(timing, "rtt_ns"),
+        there(timing, "min_rtt_ns"),
+        one_way,
+        there(one_way, "one_way_ns"),
+        text.contains("have_jitter: true") as u64,
+        pattern(m.jitter_ms()),
+        pattern(m.jitter_peak_ms()),
+        m.conceals(),
+        m.late(),
+        m.overflow(),
+        m.resyncs(),
+        pattern(m.tx_ring_peak_ms()),
+    ]
+}
+
+// a real set's, the largest, or small with the limits of each size among them
+fn sizes(r: &mut Random, of: &str) -> [usize; 6] {
+    match of {
+        "set" => return [480, 1920, 9600, 4096, WIDTH, HEIGHT],
+        "largest" => return [4096, 65_536, 131_072, 65_535, WIDTH, HEIGHT],
+        _ => {}
+    }
+    let packet = if one_in(r, 60) { pick(r, &[1, 4096]) } else { 1 + r.below(12) as usize };
+    let target = if one_in(r, 60) { 65_536 } else { packet + r.below(40) as usize };
+    let max = if one_in(r, 60) { 131_072 } else { target + r.below(60) as usize };
+    let bins = if one_in(r, 60) { 65_535 } else { pick(r, &[1, 2, 3, 5, 16, 64, 512]) };
+    [packet, target, max, bins, WIDTH, HEIGHT]
+}
+
+fn estimate(r: &mut Random) -> f32 {
+    if one_in(r, 20) { pick(r, &[0.0, -0.0, 3e38, -3e38]) } else { level(r) }
+}
+
+// Areas that hold anything, and may be longer than they need to be.
+fn areas(r: &mut Random, z: Sizes) -> Ours {
+    let junk = [f32::NAN, 0.0, -7.5, f32::INFINITY, 3e38][r.below(5) as usize];
+    Ours {
+        words: (0..WORDS + r.below(3) as usize).map(|_| r.next()).collect(),
+        fs: vec![junk; z.float_area() + r.below(4) as usize],
+        us: vec![r.next() as u32; z.word_area() + r.below(4) as usize],
+    }
+}
+
+impl Session {
+    fn new(r: &mut Random, number: usize, of: &str) -> Session {
+        let setup = Setup { sizes: sizes(r, of), estimates: std::array::from_fn(|_| estimate(r)) };
+        let [packet, target, max, bins, ..] = setup.sizes;
+        let mut ours = areas(r, Sizes(setup.sizes));
+        let (there, answer) = ours.setup(&setup);
+        let near_the_wrap = one_in(r, 4);
+        let s = Session {
+            number,
+            call: 0,
+            ours,
+            original: Original::new(packet, target, max, setup.estimates),
+            plain: Original::new(packet, target, max, setup.estimates),
+            clock: AudioMetrics::default(),
+            clock_words: clock_words(&AudioMetrics::default()),
+            filled: [0; 2],
+            sender: [Sender::new(r, bins), Sender::new(r, bins)],
+            settings: [FIRST_SETTINGS; 2],
+            sequence: std::array::from_fn(|_| if near_the_wrap { u32::MAX - r.below(30) as u32 } else { r.below(1000) as u32 }),
+            last: [None; 2],
+        };
+        s.numbers("answer", &answer, &[1, 0, 0, 0], &"setup");
+        s.check(there, "the words were not there", &"setup");
+        s.everything(&"setup");
+        s
+    }
+
+    fn fail(&self, what: &str, call: &dyn Debug) -> ! {
+        println!("DIFFERS: {what}");
+        println!("  after {}", format!("{call:?}").chars().take(600).collect::<String>());
+        println!("  call {} of session {}, sizes {:?}, settings {:?}", self.call, self.number, self.ours.sizes().0, self.settings);
+        std::process::exit(1)
+    }
+
+    fn check(&self, equal: bool, what: &str, call: &dyn Debug) {
+        if !equal {
+            self.fail(what, call);
+        }
+    }
+
+    fn floats(&self, what: &str, found: &[f32], expected: &[f32], call: &dyn Debug) {
+        if found.len() != expected.len() {
+            self.fail(&format!("{what}: {} values, expected {}", found.len(), expected.len()), call);
+        }
+        if let Some(i) = (0..found.len()).find(|&i| !same(found[i], expected[i])) {
+            let (f, e) = (found[i], expected[i]);
+            self.fail(&format!("{what} {i}: {f:e} {:08x}, expected {e:e} {:08x}", f.to_bits(), e.to_bits()), call);
+        }
+    }
+
+    fn numbers(&self, what: &str, found: &[u64], expected: &[u64], call: &dyn Debug) {
+        if found != expected {
+            self.fail(&format!("{what} {found:?}, expected {expected:?}"), call);
+        }
+    }
+
+    // ---- what a receiver holds
+
+    fn everything(&self, call: &dyn Debug) {
+        for channel in 0..2 {
+            self.jitter(channel, call);
+            self.screen(channel, call);
+        }
+        self.counts(call);
+        self.clock(call);
+        self.numbers("calls", &self.ours.words[CALLS..=CALLS], &[self.call as u64], call);
+    }
+
+    fn jitter(&self, channel: usize, call: &dyn Debug) {
+        let o = self.original.jitter[channel].lock().unwrap();
+        let w = self.ours.jitter(channel);
+        let packet = self.ours.sizes().0[0] as u64;
+        let found = [w[0], w[1], w[4] + w[3] * packet, w[6], w[7], w[8], w[9], w[10], w[11], w[12], w[13]];
+        let expected = [
+            o.max_buffered_samples() as u64,
+            o.started() as u64,
+            o.buffered_samples() as u64,
+            o.packets_received,
+            o.packets_inserted,
+            o.packets_missing_concealed,
+            o.packets_dropped_late,
+            o.packets_dropped_overflow,
+            o.packets_dropped_invalid_size,
+            o.resync_count,
+            self.filled[channel] + packet * o.packets_missing_concealed,
+        ];
+        self.numbers(["jitter buffer of A", "jitter buffer of B"][channel], &found, &expected, call);
+    }
+
+    fn screen(&self, channel: usize, call: &dyn Debug) {
+        let (o, u) = (&self.original, &self.ours);
+        let w = u.screen(channel);
+        self.floats("spectrum", u.part(channel, 1, w[5] as usize), &o.spectrum[channel].lock().unwrap(), call);
+        self.floats("smoothing", u.part(channel, 2, w[6] as usize), &o.smooth[channel], call);
+        let s = self.settings[channel];
+        let e = o.estimates(channel);
+        let found: Vec<f32> = (8..15).map(|i| u.shown(channel, i)).collect();
+        self.floats("setting or estimate", &found, &[s.top, s.range, s.zoom, s.smoothing, e[0], e[1], e[2]], call);
+        self.check(w[7] == s.adaptive as u64, "adaptive", call);
+        let found = &u.us[u.picture(channel)];
+        let expected = o.picture[channel].lock().unwrap();
+        if found != &expected[..] {
+            let i = (0..found.len()).find(|&i| found[i] != expected[i]).unwrap();
+            self.fail(&format!("pixel {i} of channel {channel}: {:06x}, expected {:06x}", found[i], expected[i]), call);
+        }
+    }
+
+    fn counts(&self, call: &dyn Debug) {
+        let s = self.original.stats.lock().unwrap();
+        let last = |i: usize| [self.last[i].is_some() as u64, self.last[i].unwrap_or(0) as u64];
+        let [known_a, last_a] = last(0);
+        let [known_w, last_w] = last(1);
+        let expected = [
+            s.incoming_packets,
+            s.audio_packets,
+            s.dropped_audio_packets,
+            s.late_audio_packets,
+            known_a,
+            last_a,
+            s.waterfall_packets,
+            s.dropped_waterfall_packets,
+            s.late_waterfall_packets,
+            known_w,
+            last_w,
+        ];
+        self.numbers("counts", &self.ours.words[INCOMING..18], &expected, call);
+    }
+
+    fn clock(&self, call: &dyn Debug) {
+        self.numbers("clock", &self.ours.words[CLOCK..CLOCK + 14], &self.clock_words, call);
+    }
+
+    // ---- calls
+
+    fn sequence(&mut self, r: &mut Random, stream: u8) -> u32 {
+        let next = &mut self.sequence[stream as usize - 1];
+        match r.below(12) {
+            0 => return next.wrapping_sub(1 + r.below(12) as u32),
+            1 => return next.wrapping_add(r.below(12) as u32),
+            2 => *next = next.wrapping_add(r.below(8) as u32),
+            3 if one_in(r, 30) => *next = r.next() as u32,
+            _ => {}
+        }
+        *next = next.wrapping_add(1);
+        next.wrapping_sub(1)
+    }
+
+    fn audio(&mut self, r: &mut Random) -> Vec<u8> {
+        let stream = pick(r, &[1, 3]);
+        let sequence = self.sequence(r, stream);
+        let version = 1 + r.below(2) as u8;
+        let mut d = header(r, version, stream, sequence);
+        if version == 2 {
+            d.extend(r.next().to_be_bytes());
+        }
+        let bytes = 2 * self.ours.sizes().0[0];
+        let bytes = if one_in(r, 12) { r.below(bytes as u64 + 4) as usize } else { bytes };
+        d.extend((0..bytes).map(|_| (r.next() >> 32) as u8));
+        if one_in(r, 60) {
+            d.truncate(16 + r.below(10) as usize);
+        }
+        d
+    }
+
+    fn chunk(&mut self, r: &mut Random, of: Values) -> Vec<u8> {
+        let channel = r.below(2) as usize;
+        let stream = 2 + 2 * channel as u8;
+        let sequence = self.sequence(r, stream);
+        let mut chunk = self.sender[channel].next(r);
+        let mut p = payload(r, chunk, of);
+        spoil(r, &mut chunk, &mut p);
+        let version = 1 + r.below(2) as u8;
+        let mut d = header(r, version, stream, sequence);
+        d.extend(&p);
+        d
+    }
+
+    // of another type, of a header that is not valid, too short, too long, or of a total above bins
+    fn odd_datagram(&mut self, r: &mut Random) -> Vec<u8> {
+        let mut d = if one_in(r, 2) { self.audio(r) } else { self.chunk(r, Values::Levels) };
+        match r.below(6) {
+            0 => d[3] = pick(r, &[0, 5, 12, 13, 255]),
+            1 => d[r.below(2) as usize] ^= 1 << r.below(8),
+            2 => d[2] = pick(r, &[0, 3, 255]),
+            3 => d.truncate(r.below(16) as usize),
+            4 => d.resize(65_535 + r.below(3) as usize, 0),
+            _ => {
+                let stream = pick(r, &[2, 4]);
+                d = header(r, 1, stream, 0);
+                let total = (self.ours.sizes().0[3] + 1 + r.below(3) as usize).min(65_535);
+                let number = r.next() as u16;
+                d.extend(payload(r, Chunk { number, total, first: 0, n: 1 }, Values::Levels));
+                d.extend(&[1, 2, 3][..r.below(4) as usize]);
+            }
+        }
+        d
+    }
+
+    fn probe(&self, r: &mut Random) -> [u64; 4] {
+        let t1 = if one_in(r, 3) { r.next() } else { 1_700_000_000_000_000_000 + (r.next() >> 20) };
+        let offset = match r.below(6) {
+            0 => r.next(),
+            1 => (BOUND as u64).wrapping_add(r.below(5)).wrapping_sub(2),
+            2 => (-BOUND as u64).wrapping_add(r.below(5)).wrapping_sub(2),
+            _ => r.below(4_000_000_000).wrapping_sub(2_000_000_000),
+        };
+        let trip = match r.below(8) {
+            0 => r.next() >> r.below(64),
+            1 => (BOUND as u64).wrapping_add(r.below(5)).wrapping_sub(2),
+            2 => r.below(5).wrapping_sub(2),
+            _ => r.below(60_000_000),
+        };
+        let [there, stay] = [r.below(trip.min(1 << 40) + 1), r.below(1000)];
+        let t2 = t1.wrapping_add(offset).wrapping_add(there);
+        [t1, t2, t2.wrapping_add(stay), t1.wrapping_add(trip).wrapping_add(stay)]
+    }
+
+    fn times(&self, r: &mut Random) -> (u64, u64) {
+        let send = if one_in(r, 3) { r.next() } else { 1_700_000_000_000_000_000 + (r.next() >> 20) };
+        let delay = match r.below(5) {
+            0 => LOW + r.below(5) as i64 - 2,
+            1 => HIGH + r.below(5) as i64 - 2,
+            2 => r.next() as i64,
+            _ => r.below(50_000_000) as i64,
+        };
+        (send.wrapping_add(delay as u64).wrapping_sub(self.ours.words[CLOCK + 1]), send)
+    }
+
+    fn depth(&self, r: &mut Random) -> usize {
+        match r.below(8) {
+            0 => 0,
+            1 => DEPTH - r.below(3) as usize,
+            2 => DEPTH + 1 + r.below(3) as usize,
+            3 => r.next() as usize,
+            _ => r.below(48_000) as usize,
+        }
+    }
+
+    fn next_call(&mut self, r: &mut Random, of: Values) -> Call {
+        let side = r.below(2) as usize;
+        match r.below(40) {
+            0..=13 => Call::Datagram(self.chunk(r, of)),
+            14..=20 => Call::Datagram(self.audio(r)),
+            21 => Call::Datagram(self.odd_datagram(r)),
+            22..=26 => {
+                let n = r.below(3 * self.ours.sizes().0[0] as u64 + 3) as usize;
+                Call::Play(side, if one_in(r, 200) { 65_534 + r.below(3) as usize } else { n })
+            }
+            27 if one_in(r, 3) => Call::Reset(side),
+            27..=30 => {
+                let (new, mut s) = (settings(r), self.settings[side]);
+                match r.below(8) {
+                    0 => s.adaptive = new.adaptive,
+                    1 => s.top = new.top,
+                    2 => s.range = new.range,
+                    3 => s.zoom = new.zoom,
+                    4 => s.smoothing = new.smoothing,
+                    _ => s = new,
+                }
+                Call::Set(side, s)
+            }
+            31..=33 => Call::Probe(self.probe(r)),
+            34..=35 => {
+                let (receive, send) = self.times(r);
+                Call::OneWay(receive, send)
+            }
+            36..=37 => Call::Depth(self.depth(r), std::array::from_fn(|_| r.next() >> r.below(64))),
+            _ => Call::TransmitDepth(self.depth(r)),
+        }
+    }
+
+    // one call on both sides, and everything compared
+    fn act(&mut self, c: &Call, seen: &mut Seen) {
+        let before = self.ours.clone();
+        let verdict = before.verdict(c);
+        let mut out = vec![2.0; if let Call::Play(_, n) = c { *n } else { 0 }];
+        let (there, answer) = self.ours.call(c, &mut out);
+        self.check(there, "the words were not there", c);
+        if let Some(number) = verdict {
+            self.numbers("answer", &answer, &[0, number, 0, 0], c);
+            self.check(self.ours.same_as(&before), "a refused call changed something", c);
+            self.check(out.iter().all(|x| *x == 2.0), "a refused play changed the output", c);
+            seen.refused += 1;
+            return;
+        }
+        self.call += 1;
+        let expected = self.original_call(c, &answer, &out, c, seen);
+        self.numbers("answer", &answer, &expected, c);
+        self.everything(c);
+    }
+
+    // the same call on the original, and the answer that it calls for
+    fn original_call(&mut self, c: &Call, answer: &[u64; 4], out: &[f32], name: &dyn Debug, seen: &mut Seen) -> [u64; 4] {
+        match c {
+            Call::Datagram(d) => return self.original_datagram(d, name, seen),
+            Call::Play(side, n) => return self.original_play(*side, *n, answer, out, name),
+            Call::Reset(side) => {
+                self.original.jitter[*side].lock().unwrap().reset();
+                self.filled[*side] = 0;
+            }
+            Call::Set(side, s) => {
+                self.original.set(*side, *s);
+                self.settings[*side] = *s;
+            }
+            Call::Probe([t1, t2, t3, t4]) => {
+                let (offset, rtt) = net::udp_framing::clock_offset_rtt(*t1, *t2, *t3, *t4);
+                self.clock.record_probe(offset, rtt);
+            }
+            Call::OneWay(receive, send) => self.clock.record_audio_one_way(*receive, *send),
+            Call::Depth(n, k) => self.clock.publish_jitter(*n, k[0], k[1], k[2], k[3]),
+            Call::TransmitDepth(n) => self.clock.note_tx_ring(*n),
+        }
+        self.clock_words = clock_words(&self.clock);
+        [1, 0, 0, 0]
+    }
+
+    fn original_datagram(&mut self, d: &[u8], name: &dyn Debug, seen: &mut Seen) -> [u64; 4] {
+        let stream = d[3];
+        let sequence = u32::from_be_bytes([d[4], d[5], d[6], d[7]]);
+        if let 1 | 2 = stream {
+            self.last[stream as usize - 1] = Some(sequence);
+        }
+        if !matches!(stream, 2 | 4) {
+            self.original.datagram(d);
+            return [3, 0, 0, 0];
+        }
+        let channel = stream as usize / 2 - 1;
+        let drawn = self.original.draws(channel, d);
+        self.plain.datagram(d);
+        if !drawn {
+            return [3, 0, 0, 0];
+        }
+        let row = &self.plain.smooth[channel];
+        self.floats("row", self.ours.part(channel, 0, row.len()), row, name);
+        seen.rows += 1;
+        seen.longest = seen.longest.max(row.len());
+        [4, row.len() as u64, 0, 0]
+    }
+
+    fn original_play(&mut self, side: usize, n: usize, answer: &[u64; 4], out: &[f32], name: &dyn Debug) -> [u64; 4] {
+        let [packet, target, ..] = self.ours.sizes().0;
+        let mut o = self.original.jitter[side].lock().unwrap();
+        let (before, concealed) = (o.buffered_samples(), o.packets_missing_concealed);
+        let mut expected = vec![1.0; n];
+        o.pop_samples(&mut expected);
+        let gone = before + packet * (o.packets_missing_concealed - concealed) as usize - o.buffered_samples();
+        let started = o.started();
+        drop(o);
+        self.floats("sample", out, &expected, name);
+        // the queue before the drop, and what the rule drops of it
+        let queue = gone + self.ours.jitter(side)[4] as usize;
+        let over = queue.saturating_sub(target);
+        let dropped = if started && over >= 1 && over >= packet / 4 { queue.min(16) } else { 0 };
+        let taken = gone - dropped.min(gone);
+        self.filled[side] += (n - taken.min(n)) as u64;
+        [2, taken as u64, dropped as u64, (n - taken.min(n)) as u64]
+    }
+
+    // ---- states of every kind
+
+    fn change_word(&self, r: &mut Random, o: &mut Ours) {
+        let i = r.below(WORDS as u64) as usize;
+        let z = self.ours.sizes().0;
+        let near = pick(r, &z) as u64;
+        let old = o.words[i];
+        o.words[i] = match r.below(9) {
+            0 => 0,
+            1 => old ^ 1 << r.below(64),
+            2 => old.wrapping_add(1),
+            3 => old.wrapping_sub(1),
+            4 => r.next(),
+            5 => pick(r, &[u64::MAX, u32::MAX as u64, 1 << 32, BOUND as u64, BOUND as u64 + 1]),
+            6 => near.wrapping_add(r.below(3)).wrapping_sub(1),
+            7 => r.below(5),
+            _ => o.words[CALLS].wrapping_mul(4_294_967_295).wrapping_add(r.below(3)).wrapping_sub(1),
+        };
+    }
+
+    fn change(&self, r: &mut Random, o: &mut Ours) {
+        let z = self.ours.sizes();
+        match r.below(14) {
+            0 => o.fs.truncate(z.float_area() - 1),
+            1 => o.us.truncate(z.word_area() - 1),
+            2 => o.words[CALLS] = 4_294_967_294 + r.below(3),
+            3 => o.words[r.below(6) as usize] = pick(r, &[0, 4096, 4097, 65_535, 65_536, 65_537, 131_072, 131_073, u64::MAX]),
+            4 | 5 => {
+                let at = r.below(2) as usize * z.word_section() + r.below(z.most_waiting() as u64) as usize;
+                let any = r.next() as u32;
+                o.us[at] = pick(r, &[0, 1, u32::MAX, o.us[at].wrapping_add(1), any]);
+            }
+            _ => self.change_word(r, o),
+        }
+    }
+
+    // a changed state and any call: the verdict is the second writing's, and a refusal changes nothing
+    fn any_state(&mut self, r: &mut Random, seen: &mut Seen) {
+        let mut o = self.ours.clone();
+        for _ in 0..1 + r.below(3) {
+            self.change(r, &mut o);
+        }
+        let sequence = self.sequence;
+        let c = self.next_call(r, Values::Levels);
+        self.sequence = sequence;
+        let verdict = o.verdict(&c);
+        let before = o.clone();
+        let name = ("a changed state", &before.words, &c);
+        let mut out = vec![2.0; if let Call::Play(_, n) = c { n } else { 0 }];
+        let (there, answer) = o.call(&c, &mut out);
+        self.check(there, "the words were not there", &name);
+        match verdict {
+            Some(number) => {
+                self.numbers("answer", &answer, &[0, number, 0, 0], &name);
+                self.check(o.same_as(&before) && out.iter().all(|x| *x == 2.0), "a refused call changed something", &name);
+                seen.by_number[number as usize] += 1;
+                if number == 3 {
+                    seen.by_clause[before.broken(before.sizes()).unwrap()] += 1;
+                }
+            }
+            None => {
+                self.check(answer[0] != 0, "refused", &name);
+                self.check(o.words[CALLS] == before.words[CALLS] + 1, "the number of calls", &name);
+                self.check(o.verdict(&Call::Reset(0)).is_none_or(|n| n == 4), "no receiver could hold what it left", &name);
+                seen.accepted += 1;
+            }
+        }
+    }
+
+    // a state or an answer one word short
+    fn short_words(&mut self, r: &mut Random, seen: &mut Seen) {
+        let mut o = self.ours.clone();
+        let sequence = self.sequence;
+        let c = self.next_call(r, Values::Levels);
+        self.sequence = sequence;
+        let mut out = vec![2.0; if let Call::Play(_, n) = c { n } else { 0 }];
+        let mut answer = vec![9; 4];
+        if one_in(r, 2) {
+            o.words.truncate(r.below(WORDS as u64) as usize);
+        } else {
+            answer.truncate(r.below(4) as usize);
+        }
+        let before = o.clone();
+        let there = o.call_into(&c, &mut out, &mut answer);
+        let kept = o.same_as(&before) && answer.iter().all(|&n| n == 9) && out.iter().all(|x| *x == 2.0);
+        self.check(!there && kept, "a call on too few words acted", &c);
+        seen.short += 1;
+    }
+}
+
+// setups of every kind: the verdict is the second writing's
+fn any_setup(r: &mut Random, seen: &mut Seen) {
+    let mut setup = Setup { sizes: [1 + r.below(12) as usize, 20, 40, 5, 3, 2], estimates: std::array::from_fn(|_| estimate(r)) };
+    let mut o = areas(r, Sizes(setup.sizes));
+    match r.below(4) {
+        0 => setup.sizes[r.below(6) as usize] = pick(r, &[0, 4097, 65_536, 65_537, 131_073, usize::MAX]),
+        1 if one_in(r, 2) => o.fs.truncate(Sizes(setup.sizes).float_area() - 1),
+        1 => o.us.truncate(Sizes(setup.sizes).word_area() - 1),
+        2 => setup.estimates[r.below(6) as usize] = not_finite(r),
+        _ => {}
+    }
+    let before = o.clone();
+    let verdict = setup_verdict(&setup, o.fs.len(), o.us.len());
+    let (there, answer) = o.setup(&setup);
+    let expected = verdict.map_or([1, 0, 0, 0], |n| [0, n, 0, 0]);
+    if !there || answer != expected || verdict.is_some() && !o.same_as(&before) {
+        println!("DIFFERS: {setup:?} answers {answer:?}, expected {expected:?}, or changed something");
+        std::process::exit(1)
+    }
+    seen.setups[verdict.unwrap_or(0) as usize] += 1;
+}
+
+fn session(r: &mut Random, number: usize, of: &str, seen: &mut Seen) {
+    let mut s = Session::new(r, number, of);
+    let large = s.ours.fs.len() > 20_000 || s.ours.us.len() > 20_000;
+    let calls = if large { 20 + r.below(60) } else { 10 + r.below(290) };
+    let usual = values(r);
+    let steady = one_in(r, 2);
+    for _ in 0..calls {
+        let of = if steady || one_in(r, 2) { usual } else { values(r) };
+        let c = s.next_call(r, of);
+        s.act(&c, seen);
+        seen.calls += 1;
+        if one_in(r, 4) {
+            s.any_state(r, seen);
+        }
+        if one_in(r, 40) {
+            s.short_words(r, seen);
+        }
+    }
+    any_setup(r, seen);
+}
+
+fn main() {
+    let args: Vec<String> = std::env::args().collect();
+    let seed: u64 = args[1].parse().unwrap();
+    let sessions: usize = args[2].parse().unwrap();
+    // other sessions at each size of the picture
+    let mut r = Random::new((seed << 26) + ((WIDTH as u64) << 13) + HEIGHT as u64);
+    let mut seen = Seen {
+        calls: 0,
+        refused: 0,
+        rows: 0,
+        longest: 0,
+        accepted: 0,
+        by_number: [0; 10],
+        by_clause: [0; CLAUSES.len()],
+        short: 0,
+        setups: [0; 6],
+    };
+    for number in 0..sessions {
+        session(&mut r, number, &args[3], &mut seen);
+    }
+    println!(
+        "picture {WIDTH} x {HEIGHT}: {sessions} sessions, {} calls ({} refused), {} rows completed, the longest {} bins: all equal",
+        seen.calls, seen.refused, seen.rows, seen.longest
+    );
+    let changed = seen.accepted + seen.by_number.iter().sum::<usize>();
+    let least = (0..CLAUSES.len()).min_by_key(|&i| seen.by_clause[i]).unwrap();
+    println!(
+        "  {changed} changed states: {} accepted, refused by 1 to 9 {:?}, by each clause of question 3 at least {} times ({})",
+        seen.accepted, &seen.by_number[1..], seen.by_clause[least], CLAUSES[least]
+    );
+    println!(
+        "  {} calls on too few words; setups: {} accepted, refused by 1, 2, 5 {:?}",
+        seen.short, seen.setups[0], [seen.setups[1], seen.setups[2], seen.setups[5]]
+    );
+    if sessions >= 1000 && seen.by_clause[least] == 0 {
+        println!("NOT STRUCK: {}", CLAUSES[least]);
+        std::process::exit(1)
+    }
+}
