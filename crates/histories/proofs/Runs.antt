@@ -22,7 +22,7 @@ chain-bytes (call h rest) = (h .bytes, chain-bytes rest)
 
 -- the areas stay as long as they were
 link-lent : {c : Call} {a : Answer} (before after : Moment) → CalledAt c before a after → lentAt after ≡ lentAt before
-link-lent before after h = rw (h .float-length, h .word-length)
+link-lent before after h = rw (h .areas .float-length, h .areas .word-length)
 
 pub chain-lent : {start last : Moment} {events : List Event} → Chain start events last → lentAt last ≡ lentAt start
 chain-lent end = refl

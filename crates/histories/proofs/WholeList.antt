@@ -26,7 +26,7 @@ fresh-sizes setup s e = ap (λ (t : State). t .sizes) e
 -- the setup is the model's, over areas of the lengths that it left
 pub left-opened : (z : Sizes) (a b : Estimates) (words : List ℕ) (m : Moment) → LeftBySetup z a b words m
     → setUp (lentAt m) (modelSetup z a b) ≡ opened (stateAt m)
-left-opened z a b words m done = rw (done .2) (done .0)
+left-opened z a b words m done = rw (done .word-length) (done .opens)
 
 -- For every accepted setup, and every chain of at most 4,294,967,295 calls from the receiver and the areas that it left, refused calls and those
 -- of no line included.

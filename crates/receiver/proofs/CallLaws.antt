@@ -10,6 +10,7 @@ use lib.Dec.{ltb}
 use lib.Seq.{getD-drop}
 use lib.Ieee.{Float}
 use borrow.Author.Tests.{le-leb, lt-ltb}
+use Rattle.model.specs.Sizes as Sizing
 use Rattle.model.specs.Sizes.{sizesAllowed, mostWaiting, floatSection, wordSection, floatArea, wordArea}
 use Rattle.model.specs.Receiver as Model
 use Rattle.model.specs.Receiver.{Call, State, StepResult, isAccepted}
@@ -29,8 +30,8 @@ use Rattle.channel.proofs.Sections.{float-section-is, word-section-is}
 use Rattle.channel.proofs.Sound.{row-shaped}
 use Rattle.receiver.specs.declared.Receiver.{Receiver}
 use Rattle.receiver.specs.View.{floatStart, wordStart, channelAt, stateOf, lentOf}
-use Rattle.receiver.specs.Promises.{Called, earlyQuestions, Ready, SidesReady}
-use Rattle.receiver.proofs.StateQuestions.{float-area-is, word-area-is}
+use Rattle.receiver.specs.Promises.{AreasKept, Called, earlyQuestions, Ready, SidesReady}
+use Rattle.receiver.proofs.StateQuestions.{float-area-is, word-area-is, float-start-few, word-start-few}
 
 -- ---- the order of the questions
 
@@ -48,6 +49,10 @@ early-refusal lent s c n e =
     (λ two. rw (one, two) (sym (rw (one, two) at e))))
     (λ one. rw one (sym (rw one at e)))
 
+-- areas that nothing was written to
+pub areas-same : (z : Sizing.Sizes) (fs : List Float) (us : List ℕ) → AreasKept z fs us fs us
+areas-same z fs us = record { float-length = refl; word-length = refl; float-end = refl; word-end = refl }
+
 module _ (r : Receiver) (fs : List Float) (us : List ℕ) where
   -- ---- refusals
 
@@ -58,8 +63,7 @@ module _ (r : Receiver) (fs : List Float) (us : List ℕ) where
       record {
         steps = rw e;
         refused = λ no. (refl, refl, refl);
-        float-length = refl;
-        word-length = refl;
+        areas = areas-same (sizesOf (r .sizes)) fs us;
         bytes = bytes;
         stays-held = λ yes. absurd (false≢true yes);
         one-more = λ yes. absurd (false≢true yes);
@@ -88,22 +92,14 @@ module _ (r : Receiver) (fs : List Float) (us : List ℕ) where
           let w = word-section-is z in
           let fa = float-area-is z in
           let wa = word-area-is z in
-          let few = float-start-few side in
-          let fewer = word-start-few side in
+          let few = float-start-few z side in
+          let fewer = word-start-few z side in
           record {
             buffer = view-shaped (r .sizes) (channelAt side r .jitter) _ _ (ready .next side) (λ i. rw (getD-drop (wordStart z side) us i 0) (words (wordStart z side + i)))
                 (simp length-drop (omega (arith, f, fa, few, ready .floats)));
             row = row-shaped (r .sizes) (channelAt side r .screen) (drop (rowAt z) (drop (floatStart z side) fs)) (simp length-drop (omega (arith, f, fa, few, ready .floats)));
             picture = part-length (mostWaiting z) (r .sizes .width * r .sizes .height) (drop (wordStart z side) us) (simp length-drop (omega (arith, w, wa, fewer, ready .words)));
           }
-        where
-          float-start-few : (side : Side) → floatStart (sizesOf (r .sizes)) side ≤ floatSection (sizesOf (r .sizes))
-          float-start-few A = omega arith
-          float-start-few B = omega arith
-
-          word-start-few : (side : Side) → wordStart (sizesOf (r .sizes)) side ≤ wordSection (sizesOf (r .sizes))
-          word-start-few A = omega arith
-          word-start-few B = omega arith
 
       state-shaped : StateShaped (stateOf r fs us)
       state-shaped = record { channelA = channel-shaped A; channelB = channel-shaped B }
@@ -113,14 +109,13 @@ module _ (r : Receiver) (fs : List Float) (us : List ℕ) where
       pub accepted-called : (c : Call) (a : Model.Answer) (r′ : Receiver) (fs′ : List Float) (us′ : List ℕ) → CallBytes c
           → firstNo (ownQuestions (sizesOf (r .sizes)) c) ≡ none → isAccepted a ≡ true
           → accept c (stateOf r fs us) ≡ record { after = stateOf r′ fs′ us′; answer = a }
-          → length fs′ ≡ length fs → length us′ ≡ length us → Called c r fs us a r′ fs′ us′
+          → AreasKept (sizesOf (r .sizes)) fs us fs′ us′ → Called c r fs us a r′ fs′ us′
       unfolding step decide
-      accepted-called c a r′ fs′ us′ bytes own accepts is float-length word-length =
+      accepted-called c a r′ fs′ us′ bytes own accepts is areas =
           record {
             steps = rw (early-passed c, own) is;
             refused = λ no. absurd (true≢false (sym accepts ∙ no));
-            float-length = float-length;
-            word-length = word-length;
+            areas = areas;
             bytes = bytes;
             stays-held = λ _. ap (λ (x : StepResult). held (x .after)) (sym is) ∙ accept-stays-held c (stateOf r fs us) bytes (ready .allowed) state-shaped (ready .holds) own;
             one-more = λ _. ap (λ (x : StepResult). x .after .calls) (sym is) ∙ accept-one-more c (stateOf r fs us) .calls;

@@ -20,7 +20,7 @@ use Rattle.receiver.specs.declared.Receiver.{Receiver}
 use Rattle.receiver.specs.View.{stateOf}
 use Rattle.receiver.specs.Fields.{counted, clockSet}
 use Rattle.receiver.specs.Promises.{Called, Ready}
-use Rattle.receiver.proofs.CallLaws.{own-refused, accepted-called}
+use Rattle.receiver.proofs.CallLaws.{areas-same, own-refused, accepted-called}
 
 module _ (r : Receiver) (fs : List Float) (us : List ℕ) (ready : Ready r fs us) (words : WordsFit us) where
   pub clock-held : clockHeld (clockOf (r .clock)) ≡ true
@@ -35,7 +35,7 @@ module _ (r : Receiver) (fs : List Float) (us : List ℕ) (ready : Ready r fs us
       → Called c r fs us accepted (counted (clockSet k r)) fs us
   unfolding accept onClock oneCallMore isAccepted
   clock-called c f k bytes own is k-is =
-      accepted-called r fs us ready words c accepted (counted (clockSet k r)) fs us bytes own refl (rw (is, ← k-is)) refl refl
+      accepted-called r fs us ready words c accepted (counted (clockSet k r)) fs us bytes own refl (rw (is, ← k-is)) (areas-same (sizesOf (r .sizes)) fs us)
 
   -- ---- a probe
 

@@ -44,8 +44,8 @@ use Rattle.receiver.specs.declared.datagrams.Stream.{Stream}
 use Rattle.receiver.specs.declared.sides.RowsShown.{RowsShown}
 use Rattle.receiver.specs.View.{floatStart, wordStart, rowPlace, streamPlace, countedOn, modelStream, channelAt, stateOf}
 use Rattle.receiver.specs.Fields.{counted, headerSet}
-use Rattle.receiver.specs.Promises.{Called, Ready, SidesReady, SideTaken, RowsTaken, HeaderReady, DatagramTaken}
-use Rattle.receiver.proofs.CallLaws.{early-refused, own-refused, accepted-called, sides-ready}
+use Rattle.receiver.specs.Promises.{AreasKept, Called, Ready, SidesReady, SideTaken, RowsTaken, HeaderReady, DatagramTaken}
+use Rattle.receiver.proofs.CallLaws.{areas-same, early-refused, own-refused, accepted-called, sides-ready}
 use Rattle.receiver.proofs.SideCalls.{channelOn}
 use Rattle.receiver.proofs.Lending.{whole-end}
 
@@ -169,14 +169,14 @@ module _ (r : Receiver) (fs : List Float) (us bytes : List ℕ) (h : MediaHeader
       → record { audio = countsOf audio; waterfall = countsOf waterfall } ≡ countsAfter (h .sequence) stream (record { audio = countsOf (r .audio); waterfall = countsOf (r .waterfall) })
       → (a : Model.Answer) → isAccepted a ≡ true → (v : Receiver) (fs′ : List Float) (us′ : List ℕ)
       → dispatch (headerFields bytes) bytes stream (stateOf (headerSet audio waterfall r) fs us) ≡ record { after = stateOf v fs′ us′; answer = a }
-      → length fs′ ≡ length fs → length us′ ≡ length us → Called (datagram bytes) r fs us a (counted v) fs′ us′
+      → AreasKept (sizesOf (r .sizes)) fs us fs′ us′ → Called (datagram bytes) r fs us a (counted v) fs′ us′
   unfolding ownQuestions firstNo accept changes takeDatagram countHeader oneCallMore
-  datagram-called stream stream-is eight audio waterfall counts a accepts v fs′ us′ done float-length word-length =
+  datagram-called stream stream-is eight audio waterfall counts a accepts v fs′ us′ done areas =
       let counted-so : record { audio = countsOf audio; waterfall = countsOf waterfall }
       ≡ countsAfter (headerFields bytes .sequence) stream (record { audio = countsOf (r .audio); waterfall = countsOf (r .waterfall) }) = rw sequence-is counts in
       accepted-called r fs us (asked .ready) words (datagram bytes) a (counted v) fs′ us′ are
       (rw (asked .length-asked, asked .header-asked, stream-is, eight)) accepts
-      (rw (stream-is, ← counted-so, done)) float-length word-length
+      (rw (stream-is, ← counted-so, done)) areas
 
   -- ---- sound
 
@@ -195,7 +195,7 @@ module _ (r : Receiver) (fs : List Float) (us bytes : List ℕ) (h : MediaHeader
       record {
         called =
             datagram-called (Framing.audio (modelSide side)) stream refl k (r .waterfall) (sound-counted side k k-is) (row none) refl v fs′ us′
-            (rw (sequence-is, version-is, ← is) (taken .taken)) (taken .float-length) (taken .word-length);
+            (rw (sequence-is, version-is, ← is) (taken .taken)) (taken .areas);
         row-bins = tt;
       }
 
@@ -205,7 +205,7 @@ module _ (r : Receiver) (fs : List Float) (us bytes : List ℕ) (h : MediaHeader
   unfolding dispatch streamAllowed countsAfter isAccepted
   passed-called stream =
       record {
-        called = datagram-called Framing.otherStream stream refl (r .audio) (r .waterfall) refl (row none) refl (headerSet (r .audio) (r .waterfall) r) fs us refl refl refl;
+        called = datagram-called Framing.otherStream stream refl (r .audio) (r .waterfall) refl (row none) refl (headerSet (r .audio) (r .waterfall) r) fs us refl (areas-same (sizesOf (r .sizes)) fs us);
         row-bins = tt;
       }
 
@@ -229,7 +229,7 @@ module _ (r : Receiver) (fs : List Float) (us bytes : List ℕ) (h : MediaHeader
     unfolding dispatch streamAllowed
     seen-called a accepts is =
         datagram-called (Framing.waterfall (modelSide side)) stream eight (r .audio) k (rows-counted side k k-is) a accepts (v .receiver) fs′ us′
-        (taken .shown .taken ∙ rw is) (taken .shown .float-length) (taken .shown .word-length)
+        (taken .shown .taken ∙ rw is) (taken .shown .areas)
 
     pub none-completed : v .completed ≡ Completed.NoRow → DatagramTaken r fs us bytes (record { receiver = counted (v .receiver); answer = Answer.NoRow }) fs′ us′
     unfolding isAccepted

@@ -9,7 +9,7 @@ use lib.ListN.{length, take, drop, length-drop, length-take}
 use lib.Seq.{take-all, drop-at, drop-drop, drop-length, length-take-le}
 use lib.Ieee.{Float}
 use borrow.Rule.Slice.PartMut.{putMid, postOf, take-put, same-len-mid}
-use Rattle.model.specs.Sizes.{mostWaiting, floatSection, wordSection}
+use Rattle.model.specs.Sizes.{mostWaiting, floatSection, wordSection, floatArea, wordArea}
 use Rattle.model.specs.Receiver as Model
 use Rattle.model.specs.Step.{ChannelResult, audioInto, playChannel}
 use Rattle.calls.specs.declared.Side.{Side}
@@ -24,7 +24,7 @@ use Rattle.receiver.specs.declared.Receiver.{Receiver}
 use Rattle.receiver.specs.View.{floatStart, wordStart, channelAt, stateOf}
 use Rattle.receiver.specs.Fields.{channelSet}
 use Rattle.receiver.specs.Promises.{SidesReady, SideTaken}
-use Rattle.receiver.proofs.StateQuestions.{float-area-is, word-area-is}
+use Rattle.receiver.proofs.StateQuestions.{float-area-is, word-area-is, float-start-few, word-start-few}
 use Rattle.receiver.proofs.SideCalls.{otherSide, channelOn, side-step}
 
 -- ---- the end of a list, lent and put back
@@ -44,22 +44,26 @@ behind-later {X} at n xs ys le same =
     let e : n ≡ at + (n - at) = omega arith in
     rw e (sym (drop-drop (n - at) at xs) ∙ ap (drop (n - at)) same ∙ drop-drop (n - at) at ys)
 
+-- an end that stays behind a place of what was lent stays behind a later place of the whole
+pub end-stays : {X : Type 0} (at k n : ℕ) (xs ys : List X) → at ≤ length xs → at + k ≤ n → drop k ys ≡ drop k (drop at xs)
+    → drop n (putMid at (length xs - at) xs ys) ≡ drop n xs
+end-stays {X} at k n xs ys inside later same =
+    let e : n ≡ at + (n - at) = omega arith in
+    let put = putMid at (length xs - at) xs ys in
+    rw e
+    (sym (drop-drop (n - at) at put)
+    ∙ ap (drop (n - at)) (end-put at xs ys inside)
+    ∙ behind-later k (n - at) ys (drop at xs) (omega arith) same
+    ∙ drop-drop (n - at) at xs)
+
 -- ---- before
 
 module _ (r : Receiver) (fs : List Float) (us : List ℕ) (ready : SidesReady r fs us) where
-  pub float-start-few : (side : Side) → floatStart (sizesOf (r .sizes)) side ≤ floatSection (sizesOf (r .sizes))
-  float-start-few A = omega arith
-  float-start-few B = omega arith
-
-  pub word-start-few : (side : Side) → wordStart (sizesOf (r .sizes)) side ≤ wordSection (sizesOf (r .sizes))
-  word-start-few A = omega arith
-  word-start-few B = omega arith
-
   pub floats-inside : (side : Side) → floatStart (sizesOf (r .sizes)) side ≤ length fs
-  floats-inside side = omega (arith, float-start-few side, float-area-is (sizesOf (r .sizes)), ready .floats)
+  floats-inside side = omega (arith, float-start-few (sizesOf (r .sizes)) side, float-area-is (sizesOf (r .sizes)), ready .floats)
 
   pub words-inside : (side : Side) → wordStart (sizesOf (r .sizes)) side ≤ length us
-  words-inside side = omega (arith, word-start-few side, word-area-is (sizesOf (r .sizes)), ready .words)
+  words-inside side = omega (arith, word-start-few (sizesOf (r .sizes)) side, word-area-is (sizesOf (r .sizes)), ready .words)
 
   pub channel-ready : (side : Side)
       → Channel.Ready (r .sizes) (channelAt side r) (take (length fs - floatStart (sizesOf (r .sizes)) side) (drop (floatStart (sizesOf (r .sizes)) side) fs))
@@ -68,8 +72,8 @@ module _ (r : Receiver) (fs : List Float) (us : List ℕ) (ready : SidesReady r 
       rw (whole-end (floatStart (sizesOf (r .sizes)) side) fs, whole-end (wordStart (sizesOf (r .sizes)) side) us)
       (record {
         allowed = ready .allowed;
-        floats = simp length-drop (omega (arith, float-start-few side, float-area-is (sizesOf (r .sizes)), ready .floats));
-        words = simp length-drop (omega (arith, word-start-few side, word-area-is (sizesOf (r .sizes)), ready .words));
+        floats = simp length-drop (omega (arith, float-start-few (sizesOf (r .sizes)) side, float-area-is (sizesOf (r .sizes)), ready .floats));
+        words = simp length-drop (omega (arith, word-start-few (sizesOf (r .sizes)) side, word-area-is (sizesOf (r .sizes)), ready .words));
         held = ready .channels side;
         next = ready .next side;
       })
@@ -116,8 +120,16 @@ module _ (r : Receiver) (fs : List Float) (us : List ℕ) (ready : SidesReady r 
             side-step side f r c fs (floatsPut side ys vs) us (wordsPut side ys vs) a
             (rw (end-put (floatStart z side) fs ys (floats-inside side), end-put (wordStart z side) us vs (words-inside side)) (rw (floats, words) at step))
             (other-kept side ys vs kept);
-        float-length = same-len-mid (floatStart z side) (length fs - floatStart z side) fs ys (behind .float-length);
-        word-length = same-len-mid (wordStart z side) (length us - wordStart z side) us vs (behind .word-length);
+        areas = record {
+          float-length = same-len-mid (floatStart z side) (length fs - floatStart z side) fs ys (behind .float-length);
+          word-length = same-len-mid (wordStart z side) (length us - wordStart z side) us vs (behind .word-length);
+          float-end =
+              end-stays (floatStart z side) (rowAt z) (floatArea z) fs ys (floats-inside side)
+              (omega (arith, float-start-few z side, float-area-is z, float-section-is z)) (kept .floats);
+          word-end =
+              end-stays (wordStart z side) (mostWaiting z) (wordArea z) us vs (words-inside side)
+              (omega (arith, word-start-few z side, word-area-is z, word-section-is z)) (kept .words);
+        };
         uncounted = channel-set-calls-is side c;
       }
     where

@@ -49,6 +49,6 @@ module _ (r : Receiver) (fs : List Float) (us : List ℕ) (ready : Ready r fs us
         called =
             side-called r fs us ready words (Model.play (modelSide side) (length out)) side (playChannel (sizesOf (r .sizes)) (length out)) answer (channelSet side (p .channel) r)
             (floatsPut r fs us sides side ys vs) (wordsPut r fs us sides side ys vs) tt (rw (le-leb (length out) 65535 few)) refl refl
-            (done .taken) (done .float-length) (done .word-length);
+            (done .taken) (done .areas);
         output = record { out-length = as-long; out-refused = λ no. absurd (true≢false no) };
       }

@@ -9,9 +9,9 @@ use native.Mathlib.Omega.{arith}
 use lib.ListN.{length, take, drop, length-drop, length-take}
 use lib.Seq.{take-take, drop-drop, length-take-le}
 use lib.Ieee.{Float, nan}
-use borrow.Rule.Slice.PartMut.{putMid, take-put, same-len-mid}
+use borrow.Rule.Slice.PartMut.{putMid, take-put, drop-put, same-len-mid}
 use Rattle.model.specs.Bytes.{part, placed}
-use Rattle.model.specs.Sizes.{mostWaiting, floatSection, wordSection}
+use Rattle.model.specs.Sizes.{mostWaiting, floatSection, wordSection, floatArea, wordArea}
 use Rattle.model.specs.Receiver as Model
 use Rattle.model.specs.Questions.{mostCalls, mostAdded, channelHeld, totalAllowed}
 use Rattle.model.specs.Step.{waterfallInto}
@@ -34,9 +34,9 @@ use Rattle.receiver.specs.declared.Receiver.{Receiver}
 use Rattle.receiver.specs.View.{floatStart, wordStart, rowPlace, channelAt, stateOf}
 use Rattle.receiver.specs.Fields.{channelSet}
 use Rattle.receiver.specs.Promises.{SidesReady, SideTaken, RowsTaken}
-use Rattle.receiver.proofs.StateQuestions.{float-area-is, word-area-is}
+use Rattle.receiver.proofs.StateQuestions.{float-area-is, word-area-is, float-start-few, word-start-few}
 use Rattle.receiver.proofs.SideCalls.{otherSide, channelOn, side-step}
-use Rattle.receiver.proofs.Lending.{whole-end, end-put, float-start-few, word-start-few, words-inside}
+use Rattle.receiver.proofs.Lending.{whole-end, end-put, end-stays, words-inside}
 
 module _ (r : Receiver) (fs : List Float) (us payload : List ℕ) (ready : SidesReady r fs us) (total : totalAllowed (sizesOf (r .sizes)) payload ≡ true) (side : Side) where
   -- where the work section begins in the area, and where it ends
@@ -53,7 +53,7 @@ module _ (r : Receiver) (fs : List Float) (us payload : List ℕ) (ready : Sides
   w = wordStart (sizesOf (r .sizes)) side
 
   pub start-few : f ≤ floatSection (sizesOf (r .sizes))
-  start-few = float-start-few r fs us ready side
+  start-few = float-start-few (sizesOf (r .sizes)) side
 
   pub end-inside : end ≤ length fs
   end-inside = omega (arith, float-area-is (sizesOf (r .sizes)), ready .floats)
@@ -84,7 +84,7 @@ module _ (r : Receiver) (fs : List Float) (us payload : List ℕ) (ready : Sides
         ready = record {
           allowed = ready .allowed;
           floats = omega (arith, lent-length, start-few);
-          words = rw words-lent (simp length-drop (omega (arith, word-start-few r fs us ready side, word-area-is (sizesOf (r .sizes)), ready .words)));
+          words = rw words-lent (simp length-drop (omega (arith, word-start-few (sizesOf (r .sizes)) side, word-area-is (sizesOf (r .sizes)), ready .words)));
           held = rw channel-lent (ready .channels side);
           next = ready .next side;
         };
@@ -111,6 +111,12 @@ module _ (r : Receiver) (fs : List Float) (us payload : List ℕ) (ready : Sides
     -- a part of what was put back
     part-put : (i n : ℕ) → i + n ≤ end - f → part (f + i) n rowsPut ≡ part i n ys
     part-put i n inside = rw rows-placed (part-within nan f ys fs i n (omega (arith, ys-length, end-inside, start-few)) (omega (arith, ys-length)))
+
+    -- what was lent ends with the work section, and so does what the sizes need
+    floats-behind : drop (floatArea (sizesOf (r .sizes))) rowsPut ≡ drop (floatArea (sizesOf (r .sizes))) fs
+    floats-behind =
+        let e : floatArea (sizesOf (r .sizes)) ≡ end = omega (arith, float-area-is (sizesOf (r .sizes))) in
+        rw e (drop-put f end fs ys (omega (arith, start-few)) end-inside ys-length)
 
     section-put : take (floatSection (sizesOf (r .sizes))) (drop f rowsPut) ≡ take (floatSection (sizesOf (r .sizes))) ys
     section-put = rw add-zero at (part-put 0 (floatSection (sizesOf (r .sizes))) (omega (arith, start-few)))
@@ -182,8 +188,14 @@ module _ (r : Receiver) (fs : List Float) (us payload : List ℕ) (ready : Sides
               ∙ h .step
               ∙ rw (← answer, channel-put r fs us payload ready total side shown ys vs h))
               (rows-other r fs us payload ready total side shown ys vs h);
-          float-length = same-len-mid (floatStart z side) (2 * floatSection z + r .sizes .bins - floatStart z side) fs ys (h .float-length);
-          word-length = same-len-mid (wordStart z side) (length us - wordStart z side) us vs (h .word-length);
+          areas = record {
+            float-length = same-len-mid (floatStart z side) (2 * floatSection z + r .sizes .bins - floatStart z side) fs ys (h .float-length);
+            word-length = same-len-mid (wordStart z side) (length us - wordStart z side) us vs (h .word-length);
+            float-end = floats-behind r fs us payload ready total side shown ys vs h;
+            word-end =
+                end-stays (wordStart z side) (wordSection z) (wordArea z) us vs (words-inside r fs us ready side)
+                (omega (arith, word-start-few z side, word-area-is z)) (h .words ∙ ap (drop (wordSection z)) (words-lent r fs us payload ready total side));
+          };
           uncounted = channel-set-calls-is side (shown .channel);
         };
         completed = h .completed;

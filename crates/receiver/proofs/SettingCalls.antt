@@ -19,7 +19,7 @@ use Rattle.receiver.specs.declared.Receiver.{Receiver}
 use Rattle.receiver.specs.View.{floatStart, wordStart, channelAt}
 use Rattle.receiver.specs.Fields.{counted, channelSet}
 use Rattle.receiver.specs.Promises.{Called, Ready}
-use Rattle.receiver.proofs.CallLaws.{own-refused}
+use Rattle.receiver.proofs.CallLaws.{areas-same, own-refused}
 use Rattle.receiver.proofs.SideCalls.{side-step, side-called}
 
 module _ (r : Receiver) (fs : List Float) (us : List ℕ) (ready : Ready r fs us) (words : WordsFit us) (side : Side) where
@@ -29,7 +29,7 @@ module _ (r : Receiver) (fs : List Float) (us : List ℕ) (ready : Ready r fs us
   reset-called c done =
       side-called r fs us ready words (reset (modelSide side)) side resetChannel accepted (channelSet side c r) fs us tt refl refl refl
       (side-step side resetChannel r c fs fs us us accepted (done (r .sizes) (drop (floatStart (sizesOf (r .sizes)) side) fs) (drop (wordStart (sizesOf (r .sizes)) side) us)) refl)
-      refl refl
+      (areas-same (sizesOf (r .sizes)) fs us)
 
   module _ (x : Settings) where
     pub set-refused : settingsFinite (modelSettings x) ≡ false → Called (set (modelSide side) (modelSettings x)) r fs us (refused 5) r fs us
@@ -42,4 +42,4 @@ module _ (r : Receiver) (fs : List Float) (us : List ℕ) (ready : Ready r fs us
     set-called c five done =
         side-called r fs us ready words (set (modelSide side) (modelSettings x)) side (setChannel (modelSettings x)) accepted (channelSet side c r) fs us tt (rw five) refl refl
         (side-step side (setChannel (modelSettings x)) r c fs fs us us accepted (done (r .sizes) (drop (floatStart (sizesOf (r .sizes)) side) fs) (drop (wordStart (sizesOf (r .sizes)) side) us)) refl)
-        refl refl
+        (areas-same (sizesOf (r .sizes)) fs us)

@@ -1,6 +1,6 @@
 -- Setup: its questions in their order, both pictures zeroed, and a view that is the model's fresh receiver; how far places reach, and the buffered
 -- amount as the model's. Assumes nothing.
-use mathlib.Core.Path.{_≡_, _∙_, ap}
+use mathlib.Core.Path.{_≡_, refl, _∙_, ap}
 use mathlib.Core.Bool.{true, false, _&&_}
 use mathlib.Core.Option.{none, some}
 use mathlib.Core.List.{List}
@@ -35,10 +35,10 @@ use Rattle.receiver.specs.declared.Receiver.{Receiver}
 use Rattle.receiver.specs.declared.asking.Verdict.the-variants.{Yes, No}
 use Rattle.receiver.specs.declared.readings.Buffered.the-variants.{Samples}
 use Rattle.receiver.specs.View.{floatStart, wordStart, channelAt, stateOf, lentOf}
-use Rattle.receiver.specs.Promises.{modelSetup, Ready}
-use Rattle.receiver.specs.Setup.{SetupReady, SetupAsked, picturesZeroed, FreshReceiver}
+use Rattle.receiver.specs.Promises.{modelSetup, picturesZeroed, SetupAccepted, Ready}
+use Rattle.receiver.specs.Setup.{SetupReady, SetupAsked, FreshReceiver}
 use Rattle.receiver.specs.Readings.{bufferedIn}
-use Rattle.receiver.proofs.StateQuestions.{float-area-is, word-area-is}
+use Rattle.receiver.proofs.StateQuestions.{float-area-is, word-area-is, float-start-few}
 
 -- ---- questions 1, 2 and 5
 
@@ -137,11 +137,9 @@ module _ (z : Sizes) (us : List ℕ) (ready : SetupReady z us) where
         )
 
     pub setup-opened : none ≡ firstNo (setupQuestions (lentOf fs us) (modelSetup z a b))
-        → (setUp (lentOf fs us) (modelSetup z a b) ≡ opened (stateOf r fs (picturesZeroed z us)))
-        × (stateOf r fs (picturesZeroed z us) ≡ fresh (modelSetup z a b))
-        × (length (picturesZeroed z us) ≡ length us)
+        → SetupAccepted z a b fs us r (picturesZeroed z us)
     unfolding setUp openedUnless
-    setup-opened none-refuse = (rw (← none-refuse, state-fresh), state-fresh, zeroed-length)
+    setup-opened none-refuse = record { opens = rw (← none-refuse, state-fresh); is-fresh = state-fresh; words = refl; word-length = zeroed-length }
 
 pub setup-refused : (z : Sizes) (a b : Estimates) (fs : List Float) (us : List ℕ) (n : ℕ)
     → some n ≡ firstNo (setupQuestions (lentOf fs us) (modelSetup z a b)) → setUp (lentOf fs us) (modelSetup z a b) ≡ notOpened n
@@ -166,10 +164,6 @@ module _ (z : Sizes) (one : sizesAllowed (sizesOf z) ≡ true) where
 
 -- of a receiver that questions 1 to 4 let through it is the model's, of that channel's buffer
 module _ (r : Receiver) (fs : List Float) (us : List ℕ) (ready : Ready r fs us) where
-  float-start-few : (side : Side) → floatStart (sizesOf (r .sizes)) side ≤ floatSection (sizesOf (r .sizes))
-  float-start-few A = omega arith
-  float-start-few B = omega arith
-
   pub buffered-reads : (side : Side)
       → bufferedIn (r .sizes) (channelAt side r .jitter)
       ≡ Samples
@@ -180,7 +174,7 @@ module _ (r : Receiver) (fs : List Float) (us : List ℕ) (ready : Ready r fs us
       let z = sizesOf (r .sizes) in
       let j = channelAt side r .jitter in
       let long : queueAt z + j .«playout_len» ≤ length (drop (floatStart z side) fs) =
-      simp length-drop (omega (arith, ready .inside side .queue, float-start-few side, ready .floats, float-area-is z, float-section-is z)) in
+      simp length-drop (omega (arith, ready .inside side .queue, float-start-few (sizesOf (r .sizes)) side, ready .floats, float-area-is z, float-section-is z)) in
       rw (
         ready .allowed,
         le-leb _ _ (ready .inside side .waiting),

@@ -27,7 +27,7 @@ use Rattle.channel.proofs.Sections.{float-section-is, word-section-is, channel-
 use Rattle.receiver.specs.declared.Receiver.{Receiver}
 use Rattle.receiver.specs.View.{floatStart, wordStart, channelAt, stateOf}
 use Rattle.receiver.specs.Fields.{counted, channelSet}
-use Rattle.receiver.specs.Promises.{Called, Ready, SidesReady, SideTaken}
+use Rattle.receiver.specs.Promises.{AreasKept, Called, Ready, SidesReady, SideTaken}
 use Rattle.receiver.proofs.StateQuestions.{float-area-is, word-area-is}
 use Rattle.receiver.proofs.CallLaws.{accepted-called}
 
@@ -56,10 +56,10 @@ module _ (r : Receiver) (fs : List Float) (us : List ℕ) (ready : Ready r fs us
       → CallBytes c → firstNo (ownQuestions (sizesOf (r .sizes)) c) ≡ none → isAccepted a ≡ true
       → changes c (stateOf r fs us) ≡ onSide (modelSide side) f (stateOf r fs us)
       → onSide (modelSide side) f (stateOf r fs us) ≡ record { after = stateOf r′ fs′ us′; answer = a }
-      → length fs′ ≡ length fs → length us′ ≡ length us → Called c r fs us a (counted r′) fs′ us′
+      → AreasKept (sizesOf (r .sizes)) fs us fs′ us′ → Called c r fs us a (counted r′) fs′ us′
   unfolding accept oneCallMore
-  side-called c side f a r′ fs′ us′ bytes own accepts is done float-length word-length =
-      accepted-called r fs us ready words c a (counted r′) fs′ us′ bytes own accepts (rw (is, done)) float-length word-length
+  side-called c side f a r′ fs′ us′ bytes own accepts is done areas =
+      accepted-called r fs us ready words c a (counted r′) fs′ us′ bytes own accepts (rw (is, done)) areas
 
 pub channel-set-calls : (side : Side) (c : Channel) (r : Receiver) → r .calls < mostCalls → channelSet side c r .calls < mostCalls
 channel-set-calls A c r few = few

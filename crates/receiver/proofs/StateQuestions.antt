@@ -25,7 +25,7 @@ use Rattle.channel.specs.View.{channelIn, Inside}
 use Rattle.channel.specs.Promises.{Asked, ChannelAsked}
 use Rattle.receiver.specs.declared.Receiver.{Receiver}
 use Rattle.receiver.specs.declared.asking.Verdict.the-variants.{Yes, No}
-use Rattle.receiver.specs.View.{channelAt, stateOf, lentOf}
+use Rattle.receiver.specs.View.{floatStart, wordStart, channelAt, stateOf, lentOf}
 use Rattle.receiver.specs.Promises.{earlyQuestions, StateAsked, EarlyAsked}
 
 pub float-area-is : (z : Sizing.Sizes) → floatArea z ≡ 2 * floatSection z + z .bins
@@ -35,6 +35,15 @@ float-area-is z = refl
 pub word-area-is : (z : Sizing.Sizes) → wordArea z ≡ 2 * wordSection z
 unfolding wordArea
 word-area-is z = refl
+
+-- each channel's sections begin within the first one or at its end
+pub float-start-few : (z : Sizing.Sizes) (side : Side) → floatStart z side ≤ floatSection z
+float-start-few z A = omega arith
+float-start-few z B = omega arith
+
+pub word-start-few : (z : Sizing.Sizes) (side : Side) → wordStart z side ≤ wordSection z
+word-start-few z A = omega arith
+word-start-few z B = omega arith
 
 module _ (r : Receiver) (us : List ℕ) (allowed : sizesAllowed (sizesOf (r .sizes)) ≡ true) (words : wordArea (sizesOf (r .sizes)) ≤ length us) where
   pub a-asked : Asked (r .sizes) (length us)

@@ -4,10 +4,12 @@ use mathlib.Core.Path.{_≡_}
 use mathlib.Core.Bool.{Bool, true, false}
 use mathlib.Core.Option.{Option, none, some}
 use mathlib.Core.List.{List, [], _∷_}
-use lib.ListN.{length, drop}
+use lib.ListN.{length, drop, replicate}
 use lib.Dec.{ltb}
 use lib.Ieee.{Float}
-use Rattle.model.specs.Sizes.{sizesAllowed, floatSection, wordSection, floatArea, wordArea}
+use Rattle.model.specs.Bytes.{placed}
+use Rattle.model.specs.Sizes as Sizing
+use Rattle.model.specs.Sizes.{sizesAllowed, mostWaiting, wordSection, floatArea, wordArea}
 use Rattle.model.specs.Framing.{headerFields, validHeader, streamIn}
 use Rattle.model.specs.Receiver as Model
 use Rattle.model.specs.Receiver.{Call, State, isAccepted, fresh}
@@ -37,13 +39,19 @@ use Rattle.receiver.specs.View.{answerOf, stateOf, lentOf, floatStart, w
 
 -- ---- the calls
 
+-- what every call leaves of the two areas: their lengths, and all that lies behind the lengths that the sizes need
+pub record AreasKept (z : Sizing.Sizes) (fs : List Float) (us : List ℕ) (fs′ : List Float) (us′ : List ℕ) : Type 0 where
+  pub float-length : length fs′ ≡ length fs
+  pub word-length : length us′ ≡ length us
+  pub float-end : drop (floatArea z) fs′ ≡ drop (floatArea z) fs
+  pub word-end : drop (wordArea z) us′ ≡ drop (wordArea z) us
+
 -- A call c on a receiver r and its areas gives the answer a and leaves r′ and the areas after it: the model's step of the view. A refusal leaves
 -- everything as it was, free places too; an accepted call leaves a state that a receiver could hold, and one call more.
 pub record Called (c : Call) (r : Receiver) (fs : List Float) (us : List ℕ) (a : Model.Answer) (r′ : Receiver) (fs′ : List Float) (us′ : List ℕ) : Type 0 where
   pub steps : step (lentOf fs us) c (stateOf r fs us) ≡ record { after = stateOf r′ fs′ us′; answer = a }
   pub refused : isAccepted a ≡ false → (r′ ≡ r) × (fs′ ≡ fs) × (us′ ≡ us)
-  pub float-length : length fs′ ≡ length fs
-  pub word-length : length us′ ≡ length us
+  pub areas : AreasKept (sizesOf (r .sizes)) fs us fs′ us′
   pub bytes : CallBytes c
   pub stays-held : isAccepted a ≡ true → held (stateOf r′ fs′ us′) ≡ true
   pub one-more : isAccepted a ≡ true → r′ .calls ≡ r .calls + 1
@@ -63,13 +71,23 @@ pub record PlayedOut (side : Side) (r : Receiver) (fs : List Float) (us : List �
 abbrev pub modelSetup : Sizes → Estimates → Estimates → Model.Setup
 modelSetup z a b = record { sizes = sizesOf z; estimatesA = modelEstimates a; estimatesB = modelEstimates b }
 
--- whatever the areas hold, the view after an accepted setup is the model's fresh receiver; a refused one changes nothing
+-- the u32 area with both pictures zeroed: A's, and then B's
+abbrev pub picturesZeroed : Sizes → List ℕ → List ℕ
+picturesZeroed z us =
+    placed (wordSection (sizesOf z) + mostWaiting (sizesOf z)) (replicate (z .width * z .height) 0)
+    (placed (mostWaiting (sizesOf z)) (replicate (z .width * z .height) 0) us)
+
+-- whatever the areas hold, the view after an accepted setup is the model's fresh receiver; of the u32 area the pictures are written and nothing else
+pub record SetupAccepted (z : Sizes) (a b : Estimates) (fs : List Float) (us : List ℕ) (r : Receiver) (us′ : List ℕ) : Type 0 where
+  pub opens : setUp (lentOf fs us) (modelSetup z a b) ≡ opened (stateOf r fs us′)
+  pub is-fresh : stateOf r fs us′ ≡ fresh (modelSetup z a b)
+  pub words : us′ ≡ picturesZeroed z us
+  pub word-length : length us′ ≡ length us
+
+-- a refused setup changes nothing
 abbrev pub SetupDone : Sizes → Estimates → Estimates → List Float → List ℕ → SetUp → List ℕ → Type 0
 SetupDone z a b fs us (Setting.Refused n) us′ = (setUp (lentOf fs us) (modelSetup z a b) ≡ notOpened n) × (us′ ≡ us)
-SetupDone z a b fs us (Setting.Ready r) us′ =
-    (setUp (lentOf fs us) (modelSetup z a b) ≡ opened (stateOf r fs us′))
-    × (stateOf r fs us′ ≡ fresh (modelSetup z a b))
-    × (length us′ ≡ length us)
+SetupDone z a b fs us (Setting.Ready r) us′ = SetupAccepted z a b fs us r us′
 
 -- a completed row has 1 to bins values
 abbrev pub RowBins : Answer → ℕ → Type 0
@@ -126,8 +144,7 @@ pub record SidesReady (r : Receiver) (fs : List Float) (us : List ℕ) : Type 0 
 -- the model's call f on that channel, before it is counted
 pub record SideTaken (side : Side) (f : Model.Channel → ChannelResult) (r : Receiver) (fs : List Float) (us : List ℕ) (a : Model.Answer) (r′ : Receiver) (fs′ : List Float) (us′ : List ℕ) : Type 0 where
   pub taken : onSide (modelSide side) f (stateOf r fs us) ≡ record { after = stateOf r′ fs′ us′; answer = a }
-  pub float-length : length fs′ ≡ length fs
-  pub word-length : length us′ ≡ length us
+  pub areas : AreasKept (sizesOf (r .sizes)) fs us fs′ us′
   pub uncounted : r′ .calls ≡ r .calls
 
 -- a waterfall payload: the row that it completed stands at its channel's place, and has 1 to bins values

@@ -1,12 +1,11 @@
--- What setup asks, what it writes, and the receiver that it makes. Assumes nothing.
-use Prim.Native.Nat.{ℕ, _+_, _*_, _≤_}
+-- What setup asks, and the receiver that it makes. Assumes nothing.
+use Prim.Native.Nat.{ℕ, _≤_}
 use mathlib.Core.Path.{_≡_}
 use mathlib.Core.Bool.{true}
 use mathlib.Core.List.{List}
-use lib.ListN.{length, replicate}
+use lib.ListN.{length}
 use lib.Ieee.{Float}
-use Rattle.model.specs.Bytes.{placed}
-use Rattle.model.specs.Sizes.{sizesAllowed, mostWaiting, wordSection, wordArea}
+use Rattle.model.specs.Sizes.{sizesAllowed, wordArea}
 use Rattle.model.specs.Counts.{freshCounts}
 use Rattle.model.specs.Clock.{freshClock}
 use Rattle.model.specs.Questions.{firstNo, setupQuestions}
@@ -31,12 +30,6 @@ pub record SetupReady (z : Sizes) (us : List ℕ) : Type 0 where
 pub record SetupAsked (z : Sizes) (a b : Estimates) (fs : List Float) (us : List ℕ) (v : Verdict) : Type 0 where
   pub asked : verdictOf v ≡ firstNo (setupQuestions (lentOf fs us) (modelSetup z a b))
   pub ready : v ≡ Yes → SetupReady z us
-
--- the u32 area with both pictures zeroed: A's, and then B's
-abbrev pub picturesZeroed : Sizes → List ℕ → List ℕ
-picturesZeroed z us =
-    placed (wordSection (sizesOf z) + mostWaiting (sizesOf z)) (replicate (z .width * z .height) 0)
-    (placed (mostWaiting (sizesOf z)) (replicate (z .width * z .height) 0) us)
 
 -- no call was accepted, nothing was counted, nothing waits and nothing is shown
 pub record FreshReceiver (z : Sizes) (a b : Estimates) (r : Receiver) : Type 0 where
