@@ -27,8 +27,8 @@ use Rattle.jitter_buffer.specs.View.{packetsFrom, viewOf, nextOf}
 use Rattle.jitter_buffer.proofs.Places.{packets-length}
 use Rattle.channel.specs.View.{rowAt}
 use Rattle.channel.proofs.Sections.{float-section-is}
-use Rattle.receiver.specs.View.{floatStart, wordStart}
-use Rattle.receiver.proofs.StateQuestions.{float-area-is}
+use Rattle.receiver_state.specs.View.{floatStart, wordStart}
+use Rattle.receiver_state.proofs.StateQuestions.{float-area-is}
 use Rattle.histories.specs.Chains.{Moment, stateAt, lentAt}
 use Rattle.histories.specs.Histories.{jitterAt, sequenceAt, ChannelAdds}
 

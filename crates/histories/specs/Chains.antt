@@ -6,10 +6,11 @@ use Rattle.model.specs.Receiver.{Call, Answer, State, Lent}
 use Rattle.model.specs.Step.{Event}
 use Rattle.calls.specs.declared.Sizes.{Sizes}
 use Rattle.calls.specs.declared.Estimates.{Estimates}
-use Rattle.receiver.specs.declared.Receiver.{Receiver}
+use Rattle.receiver_state.specs.declared.Receiver.{Receiver}
 use Rattle.receiver.specs.declared.SetUp.the-variants.{Ready}
-use Rattle.receiver.specs.View.{stateOf, lentOf}
-use Rattle.receiver.specs.Promises.{Called, SetupDone}
+use Rattle.receiver_state.specs.View.{stateOf, lentOf}
+use Rattle.receiver_state.specs.Promises.{Called}
+use Rattle.receiver.specs.Promises.{SetupDone}
 
 -- the receiver and the two lent areas between two calls
 pub record Moment : Type 0 where

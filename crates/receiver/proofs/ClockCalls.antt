@@ -1,9 +1,9 @@
 -- The clock's accepted calls: the model's call on the clock, one call more, and nothing else changes. Assumes nothing.
-use mathlib.Core.Path.{_≡_, refl, sym, _∙_, ap}
-use mathlib.Core.Bool.{Bool, true, false, _&&_}
-use mathlib.Core.Option.{none, some}
-use mathlib.Core.List.{List, []}
-use Prim.Native.Nat.{ℕ, _+_}
+use mathlib.Core.Path.{_≡_, refl}
+use mathlib.Core.Bool.{true, false}
+use mathlib.Core.Option.{none}
+use mathlib.Core.List.{List}
+use Prim.Native.Nat.{ℕ}
 use lib.Ieee.{Float}
 use Rattle.model.specs.Clock as Model
 use Rattle.model.specs.Clock.{probeOffset, probeRoundTrip, recordProbe, recordOneWay, recordDepth, recordTransmit}
@@ -16,11 +16,11 @@ use Rattle.calls.specs.Views.{sizesOf}
 use Rattle.jitter_buffer.proofs.HeldKept.{WordsFit}
 use Rattle.audio_metrics.specs.declared.AudioMetrics.{AudioMetrics}
 use Rattle.audio_metrics.specs.Views.{clockOf}
-use Rattle.receiver.specs.declared.Receiver.{Receiver}
-use Rattle.receiver.specs.View.{stateOf}
-use Rattle.receiver.specs.Fields.{counted, clockSet}
-use Rattle.receiver.specs.Promises.{Called, Ready}
-use Rattle.receiver.proofs.CallLaws.{areas-same, own-refused, accepted-called}
+use Rattle.receiver_state.specs.declared.Receiver.{Receiver}
+use Rattle.receiver_state.specs.View.{stateOf}
+use Rattle.receiver_state.specs.Fields.{counted, clockSet}
+use Rattle.receiver_state.specs.Promises.{Called, Ready}
+use Rattle.receiver_state.proofs.CallLaws.{areas-same, own-refused, accepted-called}
 
 module _ (r : Receiver) (fs : List Float) (us : List ℕ) (ready : Ready r fs us) (words : WordsFit us) where
   pub clock-held : clockHeld (clockOf (r .clock)) ≡ true

@@ -1,27 +1,26 @@
 -- A datagram that questions 1 to 4 let through: its own questions, its header's counts, and its stream's work. Assumes nothing.
 use mathlib.Core.Path.{_≡_, refl, sym, _∙_, ap}
-use mathlib.Core.Bool.{Bool, true, false, _&&_}
-use mathlib.Core.Option.{Option, none, some}
+use mathlib.Core.Bool.{true, false}
+use mathlib.Core.Option.{none, some}
 use mathlib.Core.List.{List, [], _∷_}
 use Prim.Native.Nat.{ℕ, zero, suc, _+_, _-_, _*_, _^_, _≤_, _<_, min}
 use native.Mathlib.Omega.{arith}
 use lib.ListN.{length, take, drop, getD}
-use lib.Seq.{take-all, drop-length}
+use lib.Seq.{drop-length}
 use lib.Dec.{leb, ltb}
 use lib.Ieee.{Float}
 use mir.Val.{Fits}
 use mir.Syntax.{w8}
 use borrow.Author.Tests.{le-leb, lt-leb, lt-ltb, leb-true, leb-false, ltb-true, ltb-false}
 use Rattle.model.specs.Bytes.{all}
+use Rattle.model.specs.Sizes as Sizing
 use Rattle.model.specs.Framing as Framing
-use Rattle.model.specs.Framing.{Header, headerFields, headerLength, parseHeader, validHeader, streamIn, audioStart}
-use Rattle.model.specs.Counts as Counts
+use Rattle.model.specs.Framing.{Header, headerFields, parseHeader, validHeader, streamIn, audioStart}
 use Rattle.model.specs.Samples.{audioPayload}
 use Rattle.model.specs.Receiver as Model
-use Rattle.model.specs.Receiver.{State, datagram, row, refused, isAccepted}
+use Rattle.model.specs.Receiver.{datagram, row, isAccepted}
 use Rattle.model.specs.Questions.{mostCalls, mostAdded, firstNo, ownQuestions, lengthAllowed, streamAllowed, totalAllowed, channelHeld, clockHeld, streamHeld, held}
-use Rattle.model.specs.Step.{audioInto, waterfallInto, countsAfter, countHeader, dispatch, takeDatagram, changes, oneCallMore, accept, onSide}
-use Rattle.model.specs.WholeList.{CallBytes}
+use Rattle.model.specs.Step.{audioInto, countsAfter, countHeader, dispatch, takeDatagram, changes, oneCallMore, accept}
 use Rattle.model.proofs.BoolLaws.{by-test, clash, first-of-both, second-of-both, both-and}
 use Rattle.calls.specs.declared.Side.{Side}
 use Rattle.calls.specs.declared.Side.the-variants.{A, B}
@@ -36,18 +35,20 @@ use Rattle.udp.specs.declared.StreamCounts.{StreamCounts}
 use Rattle.udp.specs.declared.reassembler.CompletedRow.the-variants as Completed
 use Rattle.udp.specs.Requires.{CountsFit}
 use Rattle.udp.specs.Views.{countsOf}
-use Rattle.udp.specs.Rows.{completedOf, CompletedInside}
+use Rattle.udp.specs.Rows.{completedOf}
 use Rattle.udp.proofs.CountsHeld.{held-counts-fit, held-incoming-fits}
-use Rattle.receiver.specs.declared.Receiver.{Receiver}
-use Rattle.receiver.specs.declared.Answer.the-variants as Answer
+use Rattle.receiver_state.specs.declared.Receiver.{Receiver}
+use Rattle.receiver_state.specs.declared.Answer.the-variants as Answer
 use Rattle.receiver.specs.declared.datagrams.Stream.{Stream}
-use Rattle.receiver.specs.declared.sides.RowsShown.{RowsShown}
-use Rattle.receiver.specs.View.{floatStart, wordStart, rowPlace, streamPlace, countedOn, modelStream, channelAt, stateOf}
-use Rattle.receiver.specs.Fields.{counted, headerSet}
-use Rattle.receiver.specs.Promises.{AreasKept, Called, Ready, SidesReady, SideTaken, RowsTaken, HeaderReady, DatagramTaken}
-use Rattle.receiver.proofs.CallLaws.{areas-same, early-refused, own-refused, accepted-called, sides-ready}
-use Rattle.receiver.proofs.SideCalls.{channelOn}
-use Rattle.receiver.proofs.Lending.{whole-end}
+use Rattle.receiver_state.specs.declared.sides.RowsShown.{RowsShown}
+use Rattle.receiver_state.specs.View.{rowPlace, streamPlace, channelAt, stateOf}
+use Rattle.receiver.specs.Promises.{countedOn, modelStream, headerQuestions}
+use Rattle.receiver_state.specs.Fields.{counted, headerSet}
+use Rattle.receiver_state.specs.Promises.{AreasKept, Called, Ready, SidesReady, SideTaken, RowsTaken}
+use Rattle.receiver.specs.Promises.{HeaderReady, DatagramTaken}
+use Rattle.receiver_state.proofs.CallLaws.{areas-same, own-refused, accepted-called, sides-ready}
+use Rattle.receiver_state.proofs.SideCalls.{channelOn}
+use Rattle.receiver_state.proofs.Lending.{whole-end}
 
 -- ---- bytes
 
@@ -93,14 +94,10 @@ module _ (r : Receiver) (fs : List Float) (us bytes : List ℕ) (ready : Ready r
   unfolding ownQuestions firstNo
   too-long enough many = refused-by 6 (rw (le-leb 16 (length bytes) enough, lt-leb (length bytes) 65535 many))
 
-  pub not-valid : lengthAllowed bytes ≡ true → validHeader (headerFields bytes) ≡ false → DatagramTaken r fs us bytes (record { receiver = r; answer = Answer.Refused 7 }) fs us
+  pub header-refused : (h : Header) (stream : Framing.Stream) (n : ℕ) → lengthAllowed bytes ≡ true → h ≡ headerFields bytes → streamIn bytes ≡ stream
+      → some n ≡ firstNo (headerQuestions (sizesOf (r .sizes)) h stream bytes) → DatagramTaken r fs us bytes (record { receiver = r; answer = Answer.Refused n }) fs us
   unfolding ownQuestions firstNo
-  not-valid six seven = refused-by 7 (rw (six, seven))
-
-  pub total-refused : lengthAllowed bytes ≡ true → validHeader (headerFields bytes) ≡ true → (side : Side) → streamIn bytes ≡ Framing.waterfall (modelSide side)
-      → totalAllowed (sizesOf (r .sizes)) (drop 16 bytes) ≡ false → DatagramTaken r fs us bytes (record { receiver = r; answer = Answer.Refused 8 }) fs us
-  unfolding ownQuestions firstNo streamAllowed
-  total-refused six seven side stream eight = refused-by 8 (rw (six, seven, stream, eight))
+  header-refused h stream n six fields stream-is refuses = refused-by n (rw six (sym (rw (fields, ← stream-is) at refuses)))
 
 pub length-asked : (bytes : List ℕ) → 16 ≤ length bytes → length bytes ≤ 65535 → lengthAllowed bytes ≡ true
 length-asked bytes enough few = both-and (le-leb 16 (length bytes) enough) (le-leb (length bytes) 65535 few)
@@ -164,18 +161,18 @@ module _ (r : Receiver) (fs : List Float) (us bytes : List ℕ) (h : MediaHeader
   version-is = ap (λ (x : Header). x .version) (sym (asked .fields))
 
   -- the header is counted, then the stream's work is done, then the call is counted
-  datagram-called : (stream : Framing.Stream) → streamIn bytes ≡ stream → streamAllowed (sizesOf (r .sizes)) bytes stream ≡ true
+  datagram-called : (stream : Framing.Stream) → streamIn bytes ≡ stream
       → (audio waterfall : StreamCounts)
       → record { audio = countsOf audio; waterfall = countsOf waterfall } ≡ countsAfter (h .sequence) stream (record { audio = countsOf (r .audio); waterfall = countsOf (r .waterfall) })
       → (a : Model.Answer) → isAccepted a ≡ true → (v : Receiver) (fs′ : List Float) (us′ : List ℕ)
       → dispatch (headerFields bytes) bytes stream (stateOf (headerSet audio waterfall r) fs us) ≡ record { after = stateOf v fs′ us′; answer = a }
       → AreasKept (sizesOf (r .sizes)) fs us fs′ us′ → Called (datagram bytes) r fs us a (counted v) fs′ us′
   unfolding ownQuestions firstNo accept changes takeDatagram countHeader oneCallMore
-  datagram-called stream stream-is eight audio waterfall counts a accepts v fs′ us′ done areas =
+  datagram-called stream stream-is audio waterfall counts a accepts v fs′ us′ done areas =
       let counted-so : record { audio = countsOf audio; waterfall = countsOf waterfall }
       ≡ countsAfter (headerFields bytes .sequence) stream (record { audio = countsOf (r .audio); waterfall = countsOf (r .waterfall) }) = rw sequence-is counts in
       accepted-called r fs us (asked .ready) words (datagram bytes) a (counted v) fs′ us′ are
-      (rw (asked .length-asked, asked .header-asked, stream-is, eight)) accepts
+      (rw (asked .length-asked, asked .header-asked, asked .stream-asked)) accepts
       (rw (stream-is, ← counted-so, done)) areas
 
   -- ---- sound
@@ -190,11 +187,11 @@ module _ (r : Receiver) (fs : List Float) (us bytes : List ℕ) (h : MediaHeader
       → (payload : List ℕ) → payload ≡ audioPayload (h .version) bytes → (v : Receiver) (fs′ : List Float) (us′ : List ℕ)
       → SideTaken side (audioInto (sizesOf (r .sizes)) (h .sequence) payload) (headerSet k (r .waterfall) r) fs us (row none) v fs′ us′
       → DatagramTaken r fs us bytes (record { receiver = counted v; answer = Answer.NoRow }) fs′ us′
-  unfolding dispatch streamAllowed isAccepted
+  unfolding dispatch isAccepted
   heard-called side stream k k-is payload is v fs′ us′ taken =
       record {
         called =
-            datagram-called (Framing.audio (modelSide side)) stream refl k (r .waterfall) (sound-counted side k k-is) (row none) refl v fs′ us′
+            datagram-called (Framing.audio (modelSide side)) stream k (r .waterfall) (sound-counted side k k-is) (row none) refl v fs′ us′
             (rw (sequence-is, version-is, ← is) (taken .taken)) (taken .areas);
         row-bins = tt;
       }
@@ -202,10 +199,10 @@ module _ (r : Receiver) (fs : List Float) (us bytes : List ℕ) (h : MediaHeader
   -- ---- a stream that no channel takes
 
   pub passed-called : streamIn bytes ≡ Framing.otherStream → DatagramTaken r fs us bytes (record { receiver = counted (headerSet (r .audio) (r .waterfall) r); answer = Answer.NoRow }) fs us
-  unfolding dispatch streamAllowed countsAfter isAccepted
+  unfolding dispatch countsAfter isAccepted
   passed-called stream =
       record {
-        called = datagram-called Framing.otherStream stream refl (r .audio) (r .waterfall) refl (row none) refl (headerSet (r .audio) (r .waterfall) r) fs us refl (areas-same (sizesOf (r .sizes)) fs us);
+        called = datagram-called Framing.otherStream stream (r .audio) (r .waterfall) refl (row none) refl (headerSet (r .audio) (r .waterfall) r) fs us refl (areas-same (sizesOf (r .sizes)) fs us);
         row-bins = tt;
       }
 
@@ -221,14 +218,19 @@ module _ (r : Receiver) (fs : List Float) (us bytes : List ℕ) (h : MediaHeader
   place-is A stream = rw stream
   place-is B stream = rw stream
 
-  module _ (side : Side) (stream : streamIn bytes ≡ Framing.waterfall (modelSide side)) (eight : totalAllowed (sizesOf (r .sizes)) (drop 16 bytes) ≡ true)
+  -- question 8 of the payload
+  pub total-asked : (side : Side) → streamIn bytes ≡ Framing.waterfall (modelSide side) → totalAllowed (sizesOf (r .sizes)) (drop 16 bytes) ≡ true
+  unfolding streamAllowed
+  total-asked side stream = rw stream at (asked .stream-asked)
+
+  module _ (side : Side) (stream : streamIn bytes ≡ Framing.waterfall (modelSide side))
       (k : StreamCounts) (k-is : countsOf k ≡ countedOn side (h .sequence) (countsOf (r .waterfall))) (v : RowsShown) (fs′ : List Float) (us′ : List ℕ)
       (taken : RowsTaken side (headerSet (r .audio) k r) fs us (drop 16 bytes) v fs′ us′) where
     seen-called : (a : Model.Answer) → isAccepted a ≡ true → Model.row (completedOf (v .completed) (drop (rowPlace (sizesOf (r .sizes)) side) fs′)) ≡ a
         → Called (datagram bytes) r fs us a (counted (v .receiver)) fs′ us′
-    unfolding dispatch streamAllowed
+    unfolding dispatch
     seen-called a accepts is =
-        datagram-called (Framing.waterfall (modelSide side)) stream eight (r .audio) k (rows-counted side k k-is) a accepts (v .receiver) fs′ us′
+        datagram-called (Framing.waterfall (modelSide side)) stream (r .audio) k (rows-counted side k k-is) a accepts (v .receiver) fs′ us′
         (taken .shown .taken ∙ rw is) (taken .shown .areas)
 
     pub none-completed : v .completed ≡ Completed.NoRow → DatagramTaken r fs us bytes (record { receiver = counted (v .receiver); answer = Answer.NoRow }) fs′ us′
@@ -242,6 +244,18 @@ module _ (r : Receiver) (fs : List Float) (us bytes : List ℕ) (h : MediaHeader
           called = rw (place-is side stream) (seen-called (row (some (take n (drop (rowPlace (sizesOf (r .sizes)) side) fs′)))) refl (rw is));
           row-bins = rw is at (taken .completed);
         }
+
+-- ---- questions 7 and 8
+
+pub headers-told : (z : Sizing.Sizes) (h : Header) (stream : Framing.Stream) (bytes : List ℕ) → none ≡ firstNo (headerQuestions z h stream bytes)
+    → (validHeader h ≡ true) × (streamAllowed z bytes stream ≡ true)
+unfolding firstNo
+headers-told z h stream bytes none-refuse =
+    by-test (validHeader h)
+    (λ seven. by-test (streamAllowed z bytes stream)
+    (λ eight. (seven, eight))
+    (λ eight. let no : none ≡ some 8 = rw (seven, eight) at none-refuse in clash (cc)))
+    (λ seven. let no : none ≡ some 7 = rw seven at none-refuse in clash (cc))
 
 -- ---- the header that was found
 

@@ -1,10 +1,5 @@
-pub mod StateQuestions
-pub mod CallLaws
 pub mod ClockCalls
-pub mod SideCalls
 pub mod SettingCalls
-pub mod Lending
 pub mod PlayCalls
-pub mod RowLending
 pub mod DatagramCalls
 pub mod SetupCalls

@@ -1,6 +1,6 @@
 -- A play that questions 1 to 4 let through. Assumes nothing.
-use mathlib.Core.Path.{_≡_, refl, sym, _∙_, ap}
-use mathlib.Core.Bool.{true, false, true≢false}
+use mathlib.Core.Path.{_≡_, refl}
+use mathlib.Core.Bool.{true≢false}
 use mathlib.Core.List.{List}
 use Prim.Native.Nat.{ℕ, _-_, _≤_, _<_}
 use lib.ListN.{length, take, drop}
@@ -15,14 +15,15 @@ use Rattle.calls.specs.Views.{modelSide, sizesOf}
 use Rattle.jitter_buffer.proofs.HeldKept.{WordsFit}
 use Rattle.channel.specs.declared.Played.{Played}
 use Rattle.channel.specs.Promises.{ChannelPlayed}
-use Rattle.receiver.specs.declared.Receiver.{Receiver}
-use Rattle.receiver.specs.declared.Answer.the-variants as Answer
-use Rattle.receiver.specs.View.{floatStart, wordStart, channelAt}
-use Rattle.receiver.specs.Fields.{counted, channelSet}
-use Rattle.receiver.specs.Promises.{Ready, PlayedOut}
-use Rattle.receiver.proofs.CallLaws.{early-refused, own-refused, sides-ready}
-use Rattle.receiver.proofs.SideCalls.{side-called}
-use Rattle.receiver.proofs.Lending.{floatsPut, wordsPut, sound-taken}
+use Rattle.receiver_state.specs.declared.Receiver.{Receiver}
+use Rattle.receiver_state.specs.declared.Answer.the-variants as Answer
+use Rattle.receiver_state.specs.View.{floatStart, wordStart, channelAt}
+use Rattle.receiver_state.specs.Fields.{counted, channelSet}
+use Rattle.receiver_state.specs.Promises.{Ready}
+use Rattle.receiver.specs.Promises.{PlayedOut}
+use Rattle.receiver_state.proofs.CallLaws.{own-refused, sides-ready}
+use Rattle.receiver_state.proofs.SideCalls.{side-called}
+use Rattle.receiver_state.proofs.Lending.{floatsPut, wordsPut, sound-taken}
 
 module _ (r : Receiver) (fs : List Float) (us : List ℕ) (ready : Ready r fs us) (words : WordsFit us) (side : Side) (out : List Float) where
   pub play-refused : 65535 < length out → PlayedOut side r fs us out (record { receiver = r; answer = Answer.Refused 9 }) fs us out

@@ -1,5 +1,5 @@
 -- A reset and a set that questions 1 to 4 let through: the model's call on the channel, over areas that stay. Assumes nothing.
-use mathlib.Core.Path.{_≡_, refl, sym, _∙_, ap}
+use mathlib.Core.Path.{_≡_, refl}
 use mathlib.Core.Bool.{true, false}
 use mathlib.Core.List.{List}
 use Prim.Native.Nat.{ℕ}
@@ -15,12 +15,12 @@ use Rattle.calls.specs.Views.{modelSide, modelSettings, sizesOf}
 use Rattle.jitter_buffer.proofs.HeldKept.{WordsFit}
 use Rattle.channel.specs.declared.Channel.{Channel}
 use Rattle.channel.specs.Promises.{ResetDone, SettingsTaken}
-use Rattle.receiver.specs.declared.Receiver.{Receiver}
-use Rattle.receiver.specs.View.{floatStart, wordStart, channelAt}
-use Rattle.receiver.specs.Fields.{counted, channelSet}
-use Rattle.receiver.specs.Promises.{Called, Ready}
-use Rattle.receiver.proofs.CallLaws.{areas-same, own-refused}
-use Rattle.receiver.proofs.SideCalls.{side-step, side-called}
+use Rattle.receiver_state.specs.declared.Receiver.{Receiver}
+use Rattle.receiver_state.specs.View.{floatStart, wordStart, channelAt}
+use Rattle.receiver_state.specs.Fields.{counted, channelSet}
+use Rattle.receiver_state.specs.Promises.{Called, Ready}
+use Rattle.receiver_state.proofs.CallLaws.{areas-same, own-refused}
+use Rattle.receiver_state.proofs.SideCalls.{side-step, side-called}
 
 module _ (r : Receiver) (fs : List Float) (us : List ℕ) (ready : Ready r fs us) (words : WordsFit us) (side : Side) where
   pub reset-called : (c : Channel) → ((z : Sizes) (fs : List Float) (us : List ℕ) → ResetDone z (channelAt side r) fs us c)

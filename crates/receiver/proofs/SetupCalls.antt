@@ -16,7 +16,7 @@ use Rattle.model.specs.Bytes.{part, placed}
 use Rattle.model.specs.Sizes.{sizesAllowed, mostWaiting, floatSection, wordSection, floatArea, wordArea}
 use Rattle.model.specs.JitterBuffer.{buffered}
 use Rattle.model.specs.Receiver.{fresh}
-use Rattle.model.specs.Questions.{firstNo, areasLong, estimatesFinite, setupQuestions, setUp, openedUnless, opened, notOpened}
+use Rattle.model.specs.Questions.{firstNo, areasLong, estimatesFinite, setupQuestions, setUp, openedUnless, notOpened}
 use Rattle.model.proofs.BoolLaws.{clash, second-of-both}
 use Rattle.model.proofs.ListLaws.{placed-length}
 use Rattle.calls.specs.declared.Side.{Side}
@@ -31,14 +31,15 @@ use Rattle.jitter_buffer.proofs.Places.{packets-length}
 use Rattle.jitter_buffer.proofs.FillView.{queue-length}
 use Rattle.channel.specs.View.{rowAt, channelIn}
 use Rattle.channel.proofs.Sections.{float-section-is, word-section-is}
-use Rattle.receiver.specs.declared.Receiver.{Receiver}
-use Rattle.receiver.specs.declared.asking.Verdict.the-variants.{Yes, No}
+use Rattle.receiver_state.specs.declared.Receiver.{Receiver}
+use Rattle.receiver_state.specs.declared.asking.Verdict.the-variants.{Yes, No}
 use Rattle.receiver.specs.declared.readings.Buffered.the-variants.{Samples}
-use Rattle.receiver.specs.View.{floatStart, wordStart, channelAt, stateOf, lentOf}
-use Rattle.receiver.specs.Promises.{modelSetup, picturesZeroed, SetupAccepted, Ready}
+use Rattle.receiver_state.specs.View.{floatStart, wordStart, channelAt, stateOf, lentOf}
+use Rattle.receiver_state.specs.Promises.{Ready}
+use Rattle.receiver.specs.Promises.{modelSetup, picturesZeroed, SetupAccepted}
 use Rattle.receiver.specs.Setup.{SetupReady, SetupAsked, FreshReceiver}
 use Rattle.receiver.specs.Readings.{bufferedIn}
-use Rattle.receiver.proofs.StateQuestions.{float-area-is, word-area-is, float-start-few}
+use Rattle.receiver_state.proofs.StateQuestions.{float-area-is, word-area-is, float-start-few}
 
 -- ---- questions 1, 2 and 5
 

@@ -12,7 +12,7 @@ use Rattle.receiver.specs.declared.readings.Place.{Place}
 use Rattle.receiver.specs.declared.readings.Place.the-variants.{At, NoSizes}
 use Rattle.receiver.specs.declared.readings.Buffered.{Buffered}
 use Rattle.receiver.specs.declared.readings.Buffered.the-variants.{Samples, NotAllowed, TooLong}
-use Rattle.receiver.specs.View.{wordStart}
+use Rattle.receiver_state.specs.View.{wordStart}
 
 -- where a channel's picture begins in the u32 area: behind its waiting sequences
 abbrev pub picturePlace : Sizing.Sizes → Side → ℕ

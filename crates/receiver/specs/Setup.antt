@@ -15,11 +15,12 @@ use Rattle.calls.specs.Views.{sizesOf}
 use Rattle.audio_metrics.specs.Views.{clockOf}
 use Rattle.udp.specs.Views.{countsOf}
 use Rattle.channel.specs.Promises.{FreshChannel}
-use Rattle.receiver.specs.declared.Receiver.{Receiver}
-use Rattle.receiver.specs.declared.asking.Verdict.{Verdict}
-use Rattle.receiver.specs.declared.asking.Verdict.the-variants.{Yes}
-use Rattle.receiver.specs.View.{lentOf}
-use Rattle.receiver.specs.Promises.{modelSetup, verdictOf}
+use Rattle.receiver_state.specs.declared.Receiver.{Receiver}
+use Rattle.receiver_state.specs.declared.asking.Verdict.{Verdict}
+use Rattle.receiver_state.specs.declared.asking.Verdict.the-variants.{Yes}
+use Rattle.receiver_state.specs.View.{lentOf}
+use Rattle.receiver_state.specs.Promises.{verdictOf}
+use Rattle.receiver.specs.Promises.{modelSetup}
 
 -- what the questions let setup take for granted
 pub record SetupReady (z : Sizes) (us : List ℕ) : Type 0 where

@@ -1,23 +1,27 @@
 // A datagram: its header, its counts, and its stream's work.
 ghost use mathlib.Core.Path.{_≡_};
-ghost use mathlib.Core.Bool.{true};
-ghost use Prim.Native.Nat.{_+_, _<_, _^_, min};
+ghost use lib.ListN.{length};
+ghost use Prim.Native.Nat.{_≤_, min};
 ghost use Rattle.model.specs.Framing.{streamOf, streamIn, audio, waterfall, otherStream};
-ghost use Rattle.calls.specs.Views.{modelSide};
+ghost use Rattle.model.specs.Questions.{firstNo, streamAllowed};
+ghost use Rattle.calls.specs.Views.{modelSide, sizesOf};
 ghost use Rattle.udp.specs.Requires.{CountsFit};
 ghost use Rattle.udp.specs.Views.{countsOf};
-ghost use Rattle.receiver.specs.View.{modelStream, countedOn};
-ghost use Rattle.receiver.specs.Fields.{headerSet};
-ghost use Rattle.receiver.specs.Promises.{Ready, HeaderReady, DatagramTaken};
-use crate::Answer;
-use crate::Answered;
-use crate::Receiver;
-use crate::asking::Verdict;
-use crate::asking::asked;
-use crate::counted::count_call;
-use crate::sides::audio_on;
-use crate::sides::waterfall_on;
+ghost use Rattle.udp_framing.specs.Views.{headerOf};
+ghost use Rattle.receiver_state.specs.Promises.{verdictOf, Ready};
+ghost use Rattle.receiver.specs.Promises.{modelStream, countedOn, headerQuestions, HeaderReady, DatagramTaken};
 use calls::Side;
+use calls::Sizes;
+use receiver_state::Answer;
+use receiver_state::Answered;
+use receiver_state::Receiver;
+use receiver_state::asking::Verdict;
+use receiver_state::asking::asked;
+use receiver_state::counted::count_call;
+use receiver_state::counted::count_header;
+use receiver_state::counted::refusal;
+use receiver_state::sides::audio_on;
+use receiver_state::sides::waterfall_on;
 use udp::StreamCounts;
 use udp::reassembler::CompletedRow;
 use udp_framing::MediaHeader;
@@ -50,27 +54,6 @@ fn counted_on(counts: StreamCounts, side: Side, sequence: u32) -> StreamCounts
     match side {
         Side::A => udp::update_sequence_stats(counts, sequence),
         Side::B => counts,
-    }
-}
-
-// One valid header more, with these counts.
-fn count_header(r: Receiver, audio: StreamCounts, waterfall: StreamCounts) -> Receiver
-    requires { ⌜ r .incoming + 1 < 2 ^ 64 ⌝ }
-    ensures { λ v. ⌜ v ≡ headerSet audio waterfall r ⌝ }
-{
-    let sizes = r.sizes;
-    let a = r.a;
-    let b = r.b;
-    let clock = r.clock;
-    Receiver {
-        sizes,
-        calls: r.calls,
-        incoming: r.incoming + 1,
-        audio,
-        waterfall,
-        a,
-        b,
-        clock,
     }
 }
 
@@ -119,13 +102,6 @@ fn seen(
     requires { ⌜ HeaderReady r (now fs) (now us) (now bytes) header × (streamIn (now bytes) ≡ waterfall (modelSide side)) ⌝ }
     ensures { λ v. ⌜ DatagramTaken r (now (fs .entry)) (now (us .entry)) (now (bytes .entry)) v (now (fs .exit)) (now (us .exit)) ⌝ }
 {
-    let z = r.sizes;
-    if !udp::packets::total_allowed(z, &bytes[16..]) {
-        return Answered {
-            receiver: r,
-            answer: Answer::Refused(8),
-        };
-    }
     let sequence = header.sequence;
     let sound = r.audio;
     let former = r.waterfall;
@@ -159,30 +135,18 @@ fn passed_over(r: Receiver, fs: &[f32], us: &[u32], bytes: &[u8], header: MediaH
     }
 }
 
-// A datagram that questions 1 to 4 let through.
-fn received(r: Receiver, fs: &mut [f32], us: &mut [u32], bytes: &[u8]) -> Answered
-    requires { ⌜ Ready r (now fs) (now us) ⌝ }
+// A datagram that its own questions let through, too: the work of its stream.
+fn dispatched(
+    r: Receiver,
+    fs: &mut [f32],
+    us: &mut [u32],
+    bytes: &[u8],
+    header: MediaHeader,
+    stream: Stream,
+) -> Answered
+    requires { ⌜ HeaderReady r (now fs) (now us) (now bytes) header × (streamIn (now bytes) ≡ modelStream stream) ⌝ }
     ensures { λ v. ⌜ DatagramTaken r (now (fs .entry)) (now (us .entry)) (now (bytes .entry)) v (now (fs .exit)) (now (us .exit)) ⌝ }
 {
-    let ParsedHeader::Header(header) = udp_framing::parse_media_header(bytes) else {
-        return Answered {
-            receiver: r,
-            answer: Answer::Refused(6),
-        };
-    };
-    if 65535 < bytes.len() {
-        return Answered {
-            receiver: r,
-            answer: Answer::Refused(6),
-        };
-    }
-    if !udp_framing::is_valid_header(header) {
-        return Answered {
-            receiver: r,
-            answer: Answer::Refused(7),
-        };
-    }
-    let stream = stream_of(header.stream_type);
     match stream {
         Stream::Audio(side) => heard(r, fs, us, bytes, header, side),
         Stream::Waterfall(side) => seen(r, fs, us, bytes, header, side),
@@ -190,18 +154,61 @@ fn received(r: Receiver, fs: &mut [f32], us: &mut [u32], bytes: &[u8]) -> Answer
     }
 }
 
-impl Receiver {
-    // A datagram, as it came.
-    pub fn handle_media_packet(self, fs: &mut [f32], us: &mut [u32], bytes: &[u8]) -> Answered
-        ensures { λ v. ⌜ DatagramTaken self (now (fs .entry)) (now (us .entry)) (now (bytes .entry)) v (now (fs .exit)) (now (us .exit)) ⌝ }
-    {
-        let verdict = asked(self, fs, us);
-        match verdict {
-            Verdict::No(n) => Answered {
-                receiver: self,
-                answer: Answer::Refused(n),
-            },
-            Verdict::Yes => received(self, fs, us, bytes),
-        }
+// Question 8 of a datagram of that stream: a waterfall payload's total.
+fn stream_allowed(z: Sizes, stream: Stream, bytes: &[u8]) -> bool
+    requires { ⌜ 16 ≤ length (now bytes) ⌝ }
+    ensures { λ v. ⌜ v ≡ streamAllowed (sizesOf z) (now (bytes .entry)) (modelStream stream) ⌝ }
+{
+    match stream {
+        Stream::Audio(_) => true,
+        Stream::Waterfall(_) => udp::packets::total_allowed(z, &bytes[16..]),
+        Stream::Other => true,
+    }
+}
+
+// Questions 7 and 8, in their order.
+fn header_asked(z: Sizes, header: MediaHeader, stream: Stream, bytes: &[u8]) -> Verdict
+    requires { ⌜ 16 ≤ length (now bytes) ⌝ }
+    ensures { λ v. ⌜ verdictOf v ≡ firstNo (headerQuestions (sizesOf z) (headerOf header) (modelStream stream) (now (bytes .entry))) ⌝ }
+{
+    let valid = udp_framing::is_valid_header(header);
+    let allowed = stream_allowed(z, stream, bytes);
+    if !valid {
+        return Verdict::No(7);
+    }
+    if !allowed {
+        return Verdict::No(8);
+    }
+    Verdict::Yes
+}
+
+// A datagram that questions 1 to 4 let through.
+fn received(r: Receiver, fs: &mut [f32], us: &mut [u32], bytes: &[u8]) -> Answered
+    requires { ⌜ Ready r (now fs) (now us) ⌝ }
+    ensures { λ v. ⌜ DatagramTaken r (now (fs .entry)) (now (us .entry)) (now (bytes .entry)) v (now (fs .exit)) (now (us .exit)) ⌝ }
+{
+    let ParsedHeader::Header(header) = udp_framing::parse_media_header(bytes) else {
+        return refusal(r, 6);
+    };
+    if 65535 < bytes.len() {
+        return refusal(r, 6);
+    }
+    let z = r.sizes;
+    let stream = stream_of(header.stream_type);
+    let verdict = header_asked(z, header, stream, bytes);
+    match verdict {
+        Verdict::No(n) => refusal(r, n),
+        Verdict::Yes => dispatched(r, fs, us, bytes, header, stream),
+    }
+}
+
+// A datagram, as it came.
+pub fn handle_media_packet(r: Receiver, fs: &mut [f32], us: &mut [u32], bytes: &[u8]) -> Answered
+    ensures { λ v. ⌜ DatagramTaken r (now (fs .entry)) (now (us .entry)) (now (bytes .entry)) v (now (fs .exit)) (now (us .exit)) ⌝ }
+{
+    let verdict = asked(r, fs, us);
+    match verdict {
+        Verdict::No(n) => refusal(r, n),
+        Verdict::Yes => received(r, fs, us, bytes),
     }
 }

@@ -3,14 +3,14 @@
 // numbers are public functions of AudioMetrics that ask nothing.
 ghost use mathlib.Core.Path.{_≡_};
 ghost use Rattle.calls.specs.Views.{sizesOf};
-ghost use Rattle.receiver.specs.View.{rowPlace, channelAt};
+ghost use Rattle.receiver_state.specs.View.{rowPlace, channelAt};
 ghost use Rattle.receiver.specs.Readings.{picturePlace, placeIn, bufferedIn};
-use crate::Receiver;
-use crate::sides::channel_of;
-use crate::sides::starts;
 use calls::Side;
 use calls::Sizes;
 use jitter_buffer::JitterBuffer;
+use receiver_state::Receiver;
+use receiver_state::sides::channel_of;
+use receiver_state::sides::starts;
 
 // A place in a lent area.
 pub enum Place {
@@ -70,14 +70,12 @@ fn buffered_in(z: Sizes, jitter: JitterBuffer) -> Buffered
     Buffered::Samples(jitter.buffered_samples(z))
 }
 
-impl Receiver {
-    // The samples that a channel buffers: those queued for play, and those of waiting packets.
-    pub fn buffered(self, side: Side) -> Buffered
-        ensures { λ v. ⌜ v ≡ bufferedIn (self .sizes) (channelAt side self .jitter) ⌝ }
-    {
-        let z = self.sizes;
-        let channel = channel_of(self, side);
-        let jitter = channel.jitter;
-        buffered_in(z, jitter)
-    }
+// The samples that a channel buffers: those queued for play, and those of waiting packets.
+pub fn buffered_samples(r: Receiver, side: Side) -> Buffered
+    ensures { λ v. ⌜ v ≡ bufferedIn (r .sizes) (channelAt side r .jitter) ⌝ }
+{
+    let z = r.sizes;
+    let channel = channel_of(r, side);
+    let jitter = channel.jitter;
+    buffered_in(z, jitter)
 }

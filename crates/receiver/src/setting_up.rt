@@ -4,16 +4,16 @@ ghost use mathlib.Core.Bool.{true, _&&_};
 ghost use Rattle.model.specs.Sizes.{sizesAllowed};
 ghost use Rattle.model.specs.Questions.{areasLong, estimatesFinite};
 ghost use Rattle.calls.specs.Views.{sizesOf, modelEstimates};
-ghost use Rattle.receiver.specs.View.{lentOf};
+ghost use Rattle.receiver_state.specs.View.{lentOf};
 ghost use Rattle.receiver.specs.Promises.{picturesZeroed, SetupDone};
 ghost use Rattle.receiver.specs.Setup.{SetupReady, SetupAsked, FreshReceiver};
-use crate::Receiver;
 use crate::SetUp;
-use crate::asking::Verdict;
 use audio_metrics::AudioMetrics;
 use calls::Estimates;
 use calls::Sizes;
 use channel::Channel;
+use receiver_state::Receiver;
+use receiver_state::asking::Verdict;
 use udp::StreamCounts;
 
 // Question 2: whether both areas are long enough.

@@ -4,18 +4,19 @@ ghost use mathlib.Core.List.{[]};
 ghost use Rattle.model.specs.Receiver.{reset, set};
 ghost use Rattle.model.specs.Questions.{settingsFinite};
 ghost use Rattle.calls.specs.Views.{modelSide, modelSettings};
-ghost use Rattle.receiver.specs.View.{answerOf};
-ghost use Rattle.receiver.specs.Promises.{Ready, Called};
-use crate::Answer;
-use crate::Answered;
-use crate::Receiver;
-use crate::asking::Verdict;
-use crate::asking::asked;
-use crate::counted::count_call;
-use crate::sides::channel_of;
-use crate::sides::with_channel;
+ghost use Rattle.receiver_state.specs.View.{answerOf};
+ghost use Rattle.receiver_state.specs.Promises.{Ready, Called};
 use calls::Settings;
 use calls::Side;
+use receiver_state::Answer;
+use receiver_state::Answered;
+use receiver_state::Receiver;
+use receiver_state::asking::Verdict;
+use receiver_state::asking::asked;
+use receiver_state::counted::count_call;
+use receiver_state::counted::refusal;
+use receiver_state::sides::channel_of;
+use receiver_state::sides::with_channel;
 
 // Question 5 of settings: whether each is the pattern of a finite float.
 fn settings_finite(x: Settings) -> bool
@@ -52,10 +53,7 @@ fn adjusted(r: Receiver, fs: &[f32], us: &[u32], side: Side, settings: Settings)
     ensures { λ v. ⌜ Called (set (modelSide side) (modelSettings settings)) r (now (fs .entry)) (now (us .entry)) (answerOf (v .answer) []) (v .receiver) (now (fs .entry)) (now (us .entry)) ⌝ }
 {
     if !settings_finite(settings) {
-        return Answered {
-            receiver: r,
-            answer: Answer::Refused(5),
-        };
+        return refusal(r, 5);
     }
     let before = channel_of(r, side);
     let channel = before.set(settings);
@@ -65,32 +63,24 @@ fn adjusted(r: Receiver, fs: &[f32], us: &[u32], side: Side, settings: Settings)
     }
 }
 
-impl Receiver {
-    // Clears a channel's jitter buffer, but for its largest buffered amount.
-    pub fn reset(self, fs: &[f32], us: &[u32], side: Side) -> Answered
-        ensures { λ v. ⌜ Called (reset (modelSide side)) self (now (fs .entry)) (now (us .entry)) (answerOf (v .answer) []) (v .receiver) (now (fs .entry)) (now (us .entry)) ⌝ }
-    {
-        let verdict = asked(self, fs, us);
-        match verdict {
-            Verdict::No(n) => Answered {
-                receiver: self,
-                answer: Answer::Refused(n),
-            },
-            Verdict::Yes => cleared(self, fs, us, side),
-        }
+// Clears a channel's jitter buffer, but for its largest buffered amount.
+pub fn reset(r: Receiver, fs: &[f32], us: &[u32], side: Side) -> Answered
+    ensures { λ v. ⌜ Called (reset (modelSide side)) r (now (fs .entry)) (now (us .entry)) (answerOf (v .answer) []) (v .receiver) (now (fs .entry)) (now (us .entry)) ⌝ }
+{
+    let verdict = asked(r, fs, us);
+    match verdict {
+        Verdict::No(n) => refusal(r, n),
+        Verdict::Yes => cleared(r, fs, us, side),
     }
+}
 
-    // New settings of a channel. Its estimates stay.
-    pub fn set(self, fs: &[f32], us: &[u32], side: Side, settings: Settings) -> Answered
-        ensures { λ v. ⌜ Called (set (modelSide side) (modelSettings settings)) self (now (fs .entry)) (now (us .entry)) (answerOf (v .answer) []) (v .receiver) (now (fs .entry)) (now (us .entry)) ⌝ }
-    {
-        let verdict = asked(self, fs, us);
-        match verdict {
-            Verdict::No(n) => Answered {
-                receiver: self,
-                answer: Answer::Refused(n),
-            },
-            Verdict::Yes => adjusted(self, fs, us, side, settings),
-        }
+// New settings of a channel. Its estimates stay.
+pub fn set(r: Receiver, fs: &[f32], us: &[u32], side: Side, settings: Settings) -> Answered
+    ensures { λ v. ⌜ Called (set (modelSide side) (modelSettings settings)) r (now (fs .entry)) (now (us .entry)) (answerOf (v .answer) []) (v .receiver) (now (fs .entry)) (now (us .entry)) ⌝ }
+{
+    let verdict = asked(r, fs, us);
+    match verdict {
+        Verdict::No(n) => refusal(r, n),
+        Verdict::Yes => adjusted(r, fs, us, side, settings),
     }
 }

@@ -1,19 +1,18 @@
 // A play.
-ghost use lib.ListN.{length};
 ghost use Rattle.model.specs.Receiver.{play};
-ghost use Rattle.calls.specs.Views.{modelSide};
-ghost use Rattle.receiver.specs.View.{answerOf};
-ghost use Rattle.receiver.specs.Promises.{Ready, Called, PlayedOut};
-use crate::Answer;
-use crate::Answered;
-use crate::Receiver;
-use crate::asking::Verdict;
-use crate::asking::asked;
-use crate::counted::count_call;
-use crate::sides::channel_of;
-use crate::sides::starts;
-use crate::sides::with_channel;
+ghost use Rattle.receiver_state.specs.Promises.{Ready};
+ghost use Rattle.receiver.specs.Promises.{PlayedOut};
 use calls::Side;
+use receiver_state::Answer;
+use receiver_state::Answered;
+use receiver_state::Receiver;
+use receiver_state::asking::Verdict;
+use receiver_state::asking::asked;
+use receiver_state::counted::count_call;
+use receiver_state::counted::refusal;
+use receiver_state::sides::channel_of;
+use receiver_state::sides::starts;
+use receiver_state::sides::with_channel;
 
 // A play that questions 1 to 4 let through.
 fn played(r: Receiver, fs: &mut [f32], us: &mut [u32], side: Side, out: &mut [f32]) -> Answered
@@ -21,10 +20,7 @@ fn played(r: Receiver, fs: &mut [f32], us: &mut [u32], side: Side, out: &mut [f3
     ensures { λ v. ⌜ PlayedOut side r (now (fs .entry)) (now (us .entry)) (now (out .entry)) v (now (fs .exit)) (now (us .exit)) (now (out .exit)) ⌝ }
 {
     if 65535 < out.len() {
-        return Answered {
-            receiver: r,
-            answer: Answer::Refused(9),
-        };
+        return refusal(r, 9);
     }
     let z = r.sizes;
     let begin = starts(z, side);
@@ -43,18 +39,13 @@ fn played(r: Receiver, fs: &mut [f32], us: &mut [u32], side: Side, out: &mut [f3
     }
 }
 
-impl Receiver {
-    // A play of as many samples as the output has.
-    pub fn play(self, fs: &mut [f32], us: &mut [u32], side: Side, out: &mut [f32]) -> Answered
-        ensures { λ v. ⌜ PlayedOut side self (now (fs .entry)) (now (us .entry)) (now (out .entry)) v (now (fs .exit)) (now (us .exit)) (now (out .exit)) ⌝ }
-    {
-        let verdict = asked(self, fs, us);
-        match verdict {
-            Verdict::No(n) => Answered {
-                receiver: self,
-                answer: Answer::Refused(n),
-            },
-            Verdict::Yes => played(self, fs, us, side, out),
-        }
+// A play of as many samples as the output has.
+pub fn play(r: Receiver, fs: &mut [f32], us: &mut [u32], side: Side, out: &mut [f32]) -> Answered
+    ensures { λ v. ⌜ PlayedOut side r (now (fs .entry)) (now (us .entry)) (now (out .entry)) v (now (fs .exit)) (now (us .exit)) (now (out .exit)) ⌝ }
+{
+    let verdict = asked(r, fs, us);
+    match verdict {
+        Verdict::No(n) => refusal(r, n),
+        Verdict::Yes => played(r, fs, us, side, out),
     }
 }

@@ -1,7 +1,7 @@
 -- What an export answers, from what the receiver's call promises. Assumes nothing.
 use Prim.Native.Nat.{ℕ, _≤_}
 use mathlib.Core.Path.{_≡_, refl, sym, _∙_}
-use mathlib.Core.Bool.{Bool, true, false, _&&_}
+use mathlib.Core.Bool.{Bool, true, false}
 use mathlib.Core.List.{List}
 use lib.ListN.{length}
 use lib.Seq.{sets}
@@ -11,8 +11,8 @@ use borrow.Author.Tests.{leb-true}
 use Rattle.model.proofs.BoolLaws.{clash, first-of-both, second-of-both}
 use Rattle.calls.specs.declared.Sizes.{Sizes}
 use Rattle.calls.specs.declared.Estimates.{Estimates}
-use Rattle.receiver.specs.declared.Receiver.{Receiver}
-use Rattle.receiver.specs.declared.Answered.{Answered}
+use Rattle.receiver_state.specs.declared.Receiver.{Receiver}
+use Rattle.receiver_state.specs.declared.Answered.{Answered}
 use Rattle.receiver.specs.declared.SetUp.{SetUp}
 use Rattle.receiver.specs.Promises.{SetupDone}
 use Rattle.receiver_exports.specs.State.{receiverAt, answerWords, stateLeft, setupWords, setupLeft}

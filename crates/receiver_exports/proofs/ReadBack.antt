@@ -1,5 +1,5 @@
 -- The words that a receiver was written to are read back as that receiver, where its numbers are of the widths that the structs have. Assumes nothing.
-use Prim.Native.Nat.{ℕ, _%_, _^_, _≤_, _<_}
+use Prim.Native.Nat.{ℕ, _^_, _≤_, _<_}
 use native.Mathlib.Nat.{mod-eq-of-lt}
 use native.Mathlib.Omega.{arith}
 use mathlib.Core.Path.{_≡_, refl, _∙_, ap}
@@ -8,11 +8,10 @@ use mathlib.Core.List.{List, _++_}
 use lib.ListN.{length, drop}
 use lib.Seq.{sets, sets-eq}
 use lib.Dec.{T, eqb}
-use lib.Ieee.{Float, binary32, fits}
-use Rattle.model.specs.Floats.{toBits}
+use lib.Ieee.{binary32, fits}
 use Rattle.audio_metrics.specs.declared.AudioMetrics.{AudioMetrics}
 use Rattle.audio_metrics.specs.Views.{clockOf}
-use Rattle.audio_metrics.specs.Words.{floatIn, clockIn, clockWords}
+use Rattle.audio_metrics.specs.Words.{clockIn, clockWords}
 use Rattle.audio_metrics.proofs.ReadBack as Clock
 use Rattle.audio_metrics.proofs.ReadBack.{float-read-back, words-read-back}
 use Rattle.jitter_buffer.specs.declared.JitterBuffer.{JitterBuffer}
@@ -26,7 +25,7 @@ use Rattle.udp.specs.declared.packets.Screen.{Screen}
 use Rattle.udp.specs.declared.reassembler.WaterfallReassembler.{WaterfallReassembler}
 use Rattle.udp.specs.declared.reassembler.WaterfallReassembler.the-variants.{NoRow, Open}
 use Rattle.channel.specs.declared.Channel.{Channel}
-use Rattle.receiver.specs.declared.Receiver.{Receiver}
+use Rattle.receiver_state.specs.declared.Receiver.{Receiver}
 use Rattle.receiver_exports.specs.Words.{lastIn, countsIn, nextIn, bufferIn, rowIn, displayIn, screenIn, flagWord, knownWord, lastWord, countWords, startedWord, nextWord, bufferWords, rowWords, screenWords}
 use Rattle.receiver_exports.specs.State.{clockBack, channelRead, receiverAt, channelWords, receiverWords}
 use Rattle.receiver_exports.proofs.ClockBack.{clock-back}

@@ -12,11 +12,12 @@ use Rattle.calls.specs.declared.Side.{Side}
 use Rattle.calls.specs.declared.Side.the-variants.{A, B}
 use Rattle.calls.specs.declared.Sizes.{Sizes}
 use Rattle.calls.specs.declared.Estimates.{Estimates}
-use Rattle.receiver.specs.declared.Receiver.{Receiver}
-use Rattle.receiver.specs.declared.Answered.{Answered}
+use Rattle.receiver_state.specs.declared.Receiver.{Receiver}
+use Rattle.receiver_state.specs.declared.Answered.{Answered}
 use Rattle.receiver.specs.declared.SetUp.{SetUp}
-use Rattle.receiver.specs.View.{answerOf}
-use Rattle.receiver.specs.Promises.{Called, PlayedOut, DatagramTaken, SetupDone}
+use Rattle.receiver_state.specs.View.{answerOf}
+use Rattle.receiver_state.specs.Promises.{Called}
+use Rattle.receiver.specs.Promises.{PlayedOut, DatagramTaken, SetupDone}
 use Rattle.receiver_exports.specs.State.{receiverAt, answerWords, stateLeft, setupWords, setupLeft}
 
 -- 0 is channel A, and any other number B

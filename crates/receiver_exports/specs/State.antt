@@ -17,10 +17,10 @@ use Rattle.audio_metrics.specs.declared.AudioMetrics.{AudioMetrics}
 use Rattle.audio_metrics.specs.Views.{clockOf}
 use Rattle.audio_metrics.specs.Words.{clockIn, clockWords}
 use Rattle.channel.specs.declared.Channel.{Channel}
-use Rattle.receiver.specs.declared.Receiver.{Receiver}
-use Rattle.receiver.specs.declared.Answer.{Answer}
-use Rattle.receiver.specs.declared.Answer.the-variants.{Refused, Accepted, Played, NoRow, Row}
-use Rattle.receiver.specs.declared.Answered.{Answered}
+use Rattle.receiver_state.specs.declared.Receiver.{Receiver}
+use Rattle.receiver_state.specs.declared.Answer.{Answer}
+use Rattle.receiver_state.specs.declared.Answer.the-variants.{Refused, Accepted, Played, NoRow, Row}
+use Rattle.receiver_state.specs.declared.Answered.{Answered}
 use Rattle.receiver.specs.declared.SetUp.{SetUp}
 use Rattle.receiver.specs.declared.SetUp.the-variants as Setting
 use Rattle.receiver_exports.specs.Words.{sizesIn, countsIn, bufferIn, screenIn, countWords, bufferWords, screenWords}

@@ -92,7 +92,11 @@ pub extern "C" fn receiver_handle_media_packet(
         return false;
     }
     let r = receiver_at(state);
-    leave(state, answer, r.handle_media_packet(fs, us, bytes));
+    leave(
+        state,
+        answer,
+        receiver::datagrams::handle_media_packet(r, fs, us, bytes),
+    );
     true
 }
 
@@ -111,7 +115,11 @@ pub extern "C" fn receiver_play(
         return false;
     }
     let r = receiver_at(state);
-    leave(state, answer, r.play(fs, us, side_named(side), out));
+    leave(
+        state,
+        answer,
+        receiver::sound::play(r, fs, us, side_named(side), out),
+    );
     true
 }
 
@@ -129,7 +137,11 @@ pub extern "C" fn receiver_reset(
         return false;
     }
     let r = receiver_at(state);
-    leave(state, answer, r.reset(fs, us, side_named(side)));
+    leave(
+        state,
+        answer,
+        receiver::settings::reset(r, fs, us, side_named(side)),
+    );
     true
 }
 
@@ -159,7 +171,11 @@ pub extern "C" fn receiver_set(
         zoom,
         smoothing,
     };
-    leave(state, answer, r.set(fs, us, side_named(side), settings));
+    leave(
+        state,
+        answer,
+        receiver::settings::set(r, fs, us, side_named(side), settings),
+    );
     true
 }
 
@@ -180,7 +196,11 @@ pub extern "C" fn receiver_probe(
         return false;
     }
     let r = receiver_at(state);
-    leave(state, answer, r.probe(fs, us, t1, t2, t3, t4));
+    leave(
+        state,
+        answer,
+        receiver::clock::probe(r, fs, us, t1, t2, t3, t4),
+    );
     true
 }
 
@@ -199,7 +219,11 @@ pub extern "C" fn receiver_one_way(
         return false;
     }
     let r = receiver_at(state);
-    leave(state, answer, r.one_way(fs, us, receive, send));
+    leave(
+        state,
+        answer,
+        receiver::clock::one_way(r, fs, us, receive, send),
+    );
     true
 }
 
@@ -227,7 +251,11 @@ pub extern "C" fn receiver_depth(
         overflow,
         resyncs,
     };
-    leave(state, answer, r.depth(fs, us, samples, counts));
+    leave(
+        state,
+        answer,
+        receiver::clock::depth(r, fs, us, samples, counts),
+    );
     true
 }
 
@@ -245,6 +273,10 @@ pub extern "C" fn receiver_transmit_depth(
         return false;
     }
     let r = receiver_at(state);
-    leave(state, answer, r.transmit_depth(fs, us, samples));
+    leave(
+        state,
+        answer,
+        receiver::clock::transmit_depth(r, fs, us, samples),
+    );
     true
 }

@@ -14,10 +14,10 @@ use crate::words::screen_from;
 use crate::words::screen_words;
 use crate::words::sizes_from;
 use channel::Channel;
-use receiver::Answer;
-use receiver::Answered;
-use receiver::Receiver;
 use receiver::SetUp;
+use receiver_state::Answer;
+use receiver_state::Answered;
+use receiver_state::Receiver;
 
 fn channel_from(w: &[u64]) -> Channel
     requires { ⌜ 29 ≤ length (now w) ⌝ }

@@ -1,6 +1,6 @@
 -- `receiver::clock::probed` meets its contract. Assumes nothing.
-use mathlib.Core.Path.{_≡_, sym, _∙_, ap}
-use borrow.Author.Tests.{not-true, not-false, leb-true}
+use mathlib.Core.Path.{sym, _∙_}
+use borrow.Author.Tests.{not-true, not-false}
 use Rattle.jitter_buffer.proofs.HeldKept.{WordsFit}
 use mir.Syntax.{w64}
 use mir.Val.{SFits}
@@ -16,18 +16,21 @@ clock-offset-rtt-requires c κs = search needs
 probe-in-range-requires : tie.Need-probe-in-range-requires
 probe-in-range-requires c κs = search needs
 
+refusal-requires : tie.Need-refusal-requires
+refusal-requires c κs = search needs
+
 returns : tie.Need-returns
 returns c =
-    let s = c .before .before .before .before .before .before .before in
+    let s = c .before .before .before .before .before .before .before .before in
     let g = s .args in
-    let words : WordsFit (g .us .now) = λ i. c .before .before .before .before .before .shared-slice-known2 .given i .fits in
-    let o = c .before .before .before .before .clock-offset-rtt in
+    let words : WordsFit (g .us .now) = λ i. c .before .before .before .before .before .before .shared-slice-known2 .given i .fits in
+    let o = c .before .before .before .before .before .clock-offset-rtt in
     let m = o .ensures in
     let offset-fits : SFits w64 (o .result .offset) = search needs in
     let rtt-fits : SFits w64 (o .result .rtt) = search needs in
     let offset = toZ-ofZ w64 _ offset-fits in
     let rtt = toZ-ofZ w64 _ rtt-fits in
-    probe-refused (g .r) (g .fs .now) (g .us .now) (s .pre) words (g .t1) (g .t2) (g .t3) (g .t4) (rw (offset, rtt, m .offset, m .rtt) at (sym (c .before .probe-in-range .ensures) ∙ not-true _ (c .if1 .taken)))
+    rw (c .refusal .ensures) (probe-refused (g .r) (g .fs .now) (g .us .now) (s .pre) words (g .t1) (g .t2) (g .t3) (g .t4) (rw (offset, rtt, m .offset, m .rtt) at (sym (c .before .before .probe-in-range .ensures) ∙ not-true _ (c .before .if1 .taken))))
 
 record-probe-requires : tie.Need-record-probe-requires
 record-probe-requires c κs =
@@ -64,6 +67,7 @@ probed-spec =
     (tie.spec
     clock-offset-rtt-requires
     probe-in-range-requires
+    refusal-requires
     returns
     record-probe-requires
     with-clock-requires

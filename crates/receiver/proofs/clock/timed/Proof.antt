@@ -1,5 +1,4 @@
 -- `receiver::clock::timed` meets its contract. Assumes nothing.
-use mathlib.Core.Path.{_≡_, sym, _∙_, ap}
 use Rattle.jitter_buffer.proofs.HeldKept.{WordsFit}
 use Rattle.receiver.proofs.ClockCalls.{clock-held, one-way-called}
 use borrow.Author.Needs.{needs}

@@ -1,5 +1,5 @@
 -- `receiver::clock::transmitted` meets its contract. Assumes nothing.
-use mathlib.Core.Path.{_≡_, sym, _∙_, ap}
+use mathlib.Core.Path.{sym, _∙_}
 use borrow.Author.Tests.{not-true, not-false, leb-true}
 use Rattle.jitter_buffer.proofs.HeldKept.{WordsFit}
 use Rattle.model.specs.Questions.{depthAllowed}
@@ -11,12 +11,15 @@ use Rattle.receiver.proofs.clock.transmitted.Tie as tie
 depth-in-range-requires : tie.Need-depth-in-range-requires
 depth-in-range-requires c κs = search needs
 
+refusal-requires : tie.Need-refusal-requires
+refusal-requires c κs = search needs
+
 returns : tie.Need-returns
 returns c =
-    let s = c .before .before .before .before in
+    let s = c .before .before .before .before .before in
     let g = s .args in
-    let words : WordsFit (g .us .now) = λ i. c .before .before .shared-slice-known2 .given i .fits in
-    transmit-refused (g .r) (g .fs .now) (g .us .now) (s .pre) words (g .samples) (sym (c .before .depth-in-range .ensures) ∙ not-true _ (c .if1 .taken))
+    let words : WordsFit (g .us .now) = λ i. c .before .before .before .shared-slice-known2 .given i .fits in
+    rw (c .refusal .ensures) (transmit-refused (g .r) (g .fs .now) (g .us .now) (s .pre) words (g .samples) (sym (c .before .before .depth-in-range .ensures) ∙ not-true _ (c .before .if1 .taken)))
 
 note-tx-ring-requires : tie.Need-note-tx-ring-requires
 unfolding depthAllowed
@@ -46,6 +49,7 @@ transmitted-spec =
     tie.close
     (tie.spec
     depth-in-range-requires
+    refusal-requires
     returns
     note-tx-ring-requires
     with-clock-requires

@@ -1,5 +1,4 @@
 -- `receiver::datagrams::counted_on` meets its contract. Assumes nothing.
-use mathlib.Core.Path.{_≡_, refl, sym, _∙_, ap}
 use borrow.Author.Needs.{needs}
 use Rattle.receiver.proofs.datagrams.counted_on.Statement.{statement}
 use Rattle.receiver.proofs.datagrams.counted_on.Tie as tie

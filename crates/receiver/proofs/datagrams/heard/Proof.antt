@@ -1,5 +1,4 @@
 -- `receiver::datagrams::heard` meets its contract. Assumes nothing.
-use mathlib.Core.Path.{_≡_, refl, sym, _∙_, ap}
 use native.Mathlib.Omega.{arith}
 use Rattle.jitter_buffer.proofs.HeldKept.{WordsFit}
 use Rattle.receiver.proofs.DatagramCalls.{bytes-are, payload-taken, audio-fits, incoming-fits, begun-ready, heard-called}

@@ -1,8 +1,6 @@
 -- `receiver::datagrams::passed_over` meets its contract. Assumes nothing.
-use mathlib.Core.Path.{_≡_, refl, sym, _∙_, ap}
 use Rattle.jitter_buffer.proofs.HeldKept.{WordsFit}
 use Rattle.receiver.proofs.DatagramCalls.{bytes-are, incoming-fits, passed-called}
-use borrow.Author.Needs.{needs}
 use Rattle.receiver.proofs.datagrams.passed_over.Statement.{statement}
 use Rattle.receiver.proofs.datagrams.passed_over.Tie as tie
 

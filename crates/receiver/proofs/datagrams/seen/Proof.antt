@@ -1,67 +1,38 @@
 -- `receiver::datagrams::seen` meets its contract. Assumes nothing.
-use mathlib.Core.Path.{_≡_, refl, sym, _∙_, ap}
 use native.Mathlib.Omega.{arith}
 use mathlib.Core.Bool.{and-eq-true-iff}
 use lib.ListN.{length}
 use lib.Dec.{leb}
-use borrow.Author.Tests.{not-true, not-false, leb-true}
+use borrow.Author.Tests.{leb-true}
 use Rattle.jitter_buffer.proofs.HeldKept.{WordsFit}
-use Rattle.receiver.proofs.Lending.{whole-end}
-use Rattle.receiver.proofs.DatagramCalls.{bytes-are, waterfall-fits, incoming-fits, begun-ready, total-refused, none-completed, one-completed}
+use Rattle.receiver_state.proofs.Lending.{whole-end}
+use Rattle.receiver.proofs.DatagramCalls.{bytes-are, waterfall-fits, incoming-fits, begun-ready, total-asked, none-completed, one-completed}
 use borrow.Author.Needs.{needs}
 use Rattle.receiver.proofs.datagrams.seen.Statement.{statement}
 use Rattle.receiver.proofs.datagrams.seen.Tie as tie
 
-sub-total-allowed : tie.Need-sub-total-allowed
-sub-total-allowed c =
-    let s = c .before .before .before .before in
-    let g = s .args in
-    let enough = and-eq-true-iff (leb 16 (length (g .bytes .now))) _ .0 (s .pre .0 .length-asked) .0 in
-    omega (arith, leb-true 16 (length (g .bytes .now)) enough)
-
-part-total-allowed-start : tie.Need-part-total-allowed-start
-part-total-allowed-start c =
-    let s = c .before .before .before .before in
-    let g = s .args in
-    let enough = and-eq-true-iff (leb 16 (length (g .bytes .now))) _ .0 (s .pre .0 .length-asked) .0 in
-    omega (arith, leb-true 16 (length (g .bytes .now)) enough)
-
-part-total-allowed-end : tie.Need-part-total-allowed-end
-part-total-allowed-end c = search needs
-
-total-allowed-requires : tie.Need-total-allowed-requires
-total-allowed-requires c κs = search needs
-
-returns : tie.Need-returns
-returns c =
-    let s = c .before .before .before .before .before .before .before in
-    let g = s .args in
-    let are = bytes-are (g .bytes .now) (c .before .before .before .before .shared-slice-known .given) in
-    let payload = whole-end 16 (g .bytes .now) in
-    total-refused (g .r) (g .fs .now) (g .us .now) (g .bytes .now) (s .pre .0 .ready) are (s .pre .0 .length-asked) (s .pre .0 .header-asked) (g .side) (s .pre .1) (sym (rw payload at (c .before .total-allowed .ensures)) ∙ not-true _ (c .if1 .taken))
-
 counted-on-requires : tie.Need-counted-on-requires
 counted-on-requires c κs =
-    let s = c .before .before .before .before .before .before .before .before .before in
+    let s = c .before .before .before .before .before in
     let g = s .args in
     waterfall-fits (g .r) (g .fs .now) (g .us .now) (s .pre .0 .ready)
 
 count-header-requires : tie.Need-count-header-requires
 count-header-requires c κs =
-    let s = c .before .before .before .before .before .before .before .before .before .before in
+    let s = c .before .before .before .before .before .before in
     let g = s .args in
     incoming-fits (g .r) (g .fs .now) (g .us .now) (s .pre .0 .ready)
 
 sub-waterfall-on : tie.Need-sub-waterfall-on
 sub-waterfall-on c =
-    let s = c .before .before .before .before .before .before .before .before .before .before .before .before .before in
+    let s = c .before .before .before .before .before .before .before .before .before in
     let g = s .args in
     let enough = and-eq-true-iff (leb 16 (length (g .bytes .now))) _ .0 (s .pre .0 .length-asked) .0 in
     omega (arith, leb-true 16 (length (g .bytes .now)) enough)
 
 part-waterfall-on-start : tie.Need-part-waterfall-on-start
 part-waterfall-on-start c =
-    let s = c .before .before .before .before .before .before .before .before .before .before .before .before .before in
+    let s = c .before .before .before .before .before .before .before .before .before in
     let g = s .args in
     let enough = and-eq-true-iff (leb 16 (length (g .bytes .now))) _ .0 (s .pre .0 .length-asked) .0 in
     omega (arith, leb-true 16 (length (g .bytes .now)) enough)
@@ -71,18 +42,19 @@ part-waterfall-on-end c = search needs
 
 waterfall-on-requires : tie.Need-waterfall-on-requires
 waterfall-on-requires c κs =
-    let s = c .before .before .before .before .before .before .before .before .before .before .before .before .before .before in
+    let s = c .before .before .before .before .before .before .before .before .before .before in
     let g = s .args in
-    let payload = whole-end 16 (g .bytes .now) in
-    (rw (c .before .before .before .count-header .ensures) (begun-ready (g .r) (g .fs .now) (g .us .now) (s .pre .0 .ready) _ _), rw (c .before .before .before .count-header .ensures, payload) (sym (rw payload at (c .before .before .before .before .before .before .before .before .total-allowed .ensures)) ∙ not-false _ (c .before .before .before .before .before .before .before .if1 .left)))
+    let words : WordsFit (g .us .now) = λ i. c .before .before .before .before .before .before .before .before .slice-known2 .given i .fits in
+    let are = bytes-are (g .bytes .now) (c .before .before .before .before .before .before .before .shared-slice-known .given) in
+    let total = total-asked (g .r) (g .fs .now) (g .us .now) (g .bytes .now) (g .header) (s .pre .0) words are (g .side) (s .pre .1) in
+    (rw (c .before .before .before .count-header .ensures) (begun-ready (g .r) (g .fs .now) (g .us .now) (s .pre .0 .ready) _ _), rw (c .before .before .before .count-header .ensures, whole-end 16 (g .bytes .now)) total)
 
 enum-told : tie.Need-enum-told
 enum-told c = search needs
 
 count-call-requires : tie.Need-count-call-requires
 count-call-requires c κs =
-    let s = c .before .before .before .before .before .before .before .before .before .before .before .before .before .before .before .before .before .before .before .before .before .before in
-    let g = s .args in
+    let s = c .before .before .before .before .before .before .before .before .before .before .before .before .before .before .before .before .before .before in
     let h = c .before .before .before .before .before .before .before .waterfall-on .ensures in
     let e = rw (c .before .before .before .before .before .before .before .before .before .before .before .count-header .ensures) at (h .shown .uncounted) in
     rw e (s .pre .0 .ready .calls)
@@ -92,8 +64,7 @@ enum-known-completed c = search needs
 
 count-call-requires-2 : tie.Need-count-call-requires-2
 count-call-requires-2 c κs =
-    let s = c .before .before .before .before .before .before .before .before .before .before .before .before .before .before .before .before .before .before .before .before .before .before .before in
-    let g = s .args in
+    let s = c .before .before .before .before .before .before .before .before .before .before .before .before .before .before .before .before .before .before .before in
     let h = c .before .before .before .before .before .before .before .before .waterfall-on .ensures in
     let e = rw (c .before .before .before .before .before .before .before .before .before .before .before .before .count-header .ensures) at (h .shown .uncounted) in
     rw e (s .pre .0 .ready .calls)
@@ -104,16 +75,15 @@ same-length c = search needs
 same-length-2 : tie.Need-same-length-2
 same-length-2 c = search needs
 
-returns-2 : tie.Need-returns-2
-returns-2 c =
-    let s = c .before .before .before .before .before .before .before .before .before .before .before .before .before .before .before .before .before .before .before .before .before .before .before in
+returns : tie.Need-returns
+returns c =
+    let s = c .before .before .before .before .before .before .before .before .before .before .before .before .before .before .before .before .before .before .before in
     let g = s .args in
-    let words : WordsFit (g .us .now) = λ i. c .before .before .before .before .before .before .before .before .before .before .before .before .before .before .before .before .before .before .before .before .before .slice-known2 .given i .fits in
-    let are = bytes-are (g .bytes .now) (c .before .before .before .before .before .before .before .before .before .before .before .before .before .before .before .before .before .before .before .before .shared-slice-known .given) in
-    let payload = whole-end 16 (g .bytes .now) in
+    let words : WordsFit (g .us .now) = λ i. c .before .before .before .before .before .before .before .before .before .before .before .before .before .before .before .before .before .slice-known2 .given i .fits in
+    let are = bytes-are (g .bytes .now) (c .before .before .before .before .before .before .before .before .before .before .before .before .before .before .before .before .shared-slice-known .given) in
     let h = c .before .before .before .before .before .before .before .before .waterfall-on in
-    let taken = rw (c .before .before .before .before .before .before .before .before .before .before .before .before .count-header .ensures, payload) at (h .ensures) in
-    rw (c .count-call .ensures) (none-completed (g .r) (g .fs .now) (g .us .now) (g .bytes .now) (g .header) (s .pre .0) words are (g .side) (s .pre .1) (sym (rw payload at (c .before .before .before .before .before .before .before .before .before .before .before .before .before .before .before .before .before .total-allowed .ensures)) ∙ not-false _ (c .before .before .before .before .before .before .before .before .before .before .before .before .before .before .before .before .if1 .left)) (c .before .before .before .before .before .before .before .before .before .before .before .before .before .counted-on .result) (c .before .before .before .before .before .before .before .before .before .before .before .before .before .counted-on .ensures) (h .result) (h .last .1 .0) (h .last .1 .1 .0) taken (c .before .enum-told .given .1))
+    let taken = rw (c .before .before .before .before .before .before .before .before .before .before .before .before .count-header .ensures, whole-end 16 (g .bytes .now)) at (h .ensures) in
+    rw (c .count-call .ensures) (none-completed (g .r) (g .fs .now) (g .us .now) (g .bytes .now) (g .header) (s .pre .0) words are (g .side) (s .pre .1) (c .before .before .before .before .before .before .before .before .before .before .before .before .before .counted-on .result) (c .before .before .before .before .before .before .before .before .before .before .before .before .before .counted-on .ensures) (h .result) (h .last .1 .0) (h .last .1 .1 .0) taken (c .before .enum-told .given .1))
 
 same-length-3 : tie.Need-same-length-3
 same-length-3 c = search needs
@@ -121,26 +91,20 @@ same-length-3 c = search needs
 same-length-4 : tie.Need-same-length-4
 same-length-4 c = search needs
 
-returns-3 : tie.Need-returns-3
-returns-3 c =
-    let s = c .before .before .before .before .before .before .before .before .before .before .before .before .before .before .before .before .before .before .before .before .before .before .before .before in
+returns-2 : tie.Need-returns-2
+returns-2 c =
+    let s = c .before .before .before .before .before .before .before .before .before .before .before .before .before .before .before .before .before .before .before .before in
     let g = s .args in
-    let words : WordsFit (g .us .now) = λ i. c .before .before .before .before .before .before .before .before .before .before .before .before .before .before .before .before .before .before .before .before .before .before .slice-known2 .given i .fits in
-    let are = bytes-are (g .bytes .now) (c .before .before .before .before .before .before .before .before .before .before .before .before .before .before .before .before .before .before .before .before .before .shared-slice-known .given) in
-    let payload = whole-end 16 (g .bytes .now) in
+    let words : WordsFit (g .us .now) = λ i. c .before .before .before .before .before .before .before .before .before .before .before .before .before .before .before .before .before .before .slice-known2 .given i .fits in
+    let are = bytes-are (g .bytes .now) (c .before .before .before .before .before .before .before .before .before .before .before .before .before .before .before .before .before .shared-slice-known .given) in
     let h = c .before .before .before .before .before .before .before .before .before .waterfall-on in
-    let taken = rw (c .before .before .before .before .before .before .before .before .before .before .before .before .before .count-header .ensures, payload) at (h .ensures) in
-    rw (c .count-call2 .ensures) (one-completed (g .r) (g .fs .now) (g .us .now) (g .bytes .now) (g .header) (s .pre .0) words are (g .side) (s .pre .1) (sym (rw payload at (c .before .before .before .before .before .before .before .before .before .before .before .before .before .before .before .before .before .before .total-allowed .ensures)) ∙ not-false _ (c .before .before .before .before .before .before .before .before .before .before .before .before .before .before .before .before .before .if1 .left)) (c .before .before .before .before .before .before .before .before .before .before .before .before .before .before .counted-on .result) (c .before .before .before .before .before .before .before .before .before .before .before .before .before .before .counted-on .ensures) (h .result) (h .last .1 .0) (h .last .1 .1 .0) taken _ (c .before .before .completed .given .1))
+    let taken = rw (c .before .before .before .before .before .before .before .before .before .before .before .before .before .count-header .ensures, whole-end 16 (g .bytes .now)) at (h .ensures) in
+    rw (c .count-call2 .ensures) (one-completed (g .r) (g .fs .now) (g .us .now) (g .bytes .now) (g .header) (s .pre .0) words are (g .side) (s .pre .1) (c .before .before .before .before .before .before .before .before .before .before .before .before .before .before .counted-on .result) (c .before .before .before .before .before .before .before .before .before .before .before .before .before .before .counted-on .ensures) (h .result) (h .last .1 .0) (h .last .1 .1 .0) taken _ (c .before .before .completed .given .1))
 
 pub seen-spec : {M : Type 1} → statement M
 seen-spec =
     tie.close
     (tie.spec
-    sub-total-allowed
-    part-total-allowed-start
-    part-total-allowed-end
-    total-allowed-requires
-    returns
     counted-on-requires
     count-header-requires
     sub-waterfall-on
@@ -153,7 +117,7 @@ seen-spec =
     count-call-requires-2
     same-length
     same-length-2
-    returns-2
+    returns
     same-length-3
     same-length-4
-    returns-3)
+    returns-2)

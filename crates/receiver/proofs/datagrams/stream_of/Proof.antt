@@ -1,8 +1,6 @@
 -- `receiver::datagrams::stream_of` meets its contract. Assumes nothing.
-use mathlib.Core.Path.{_≡_, refl, sym, _∙_, ap}
 use borrow.Author.Tests.{ne-eqb}
 use Rattle.model.specs.Framing.{streamOf}
-use borrow.Author.Needs.{needs}
 use Rattle.receiver.proofs.datagrams.stream_of.Statement.{statement}
 use Rattle.receiver.proofs.datagrams.stream_of.Tie as tie
 

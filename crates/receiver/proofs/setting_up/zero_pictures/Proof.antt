@@ -3,7 +3,7 @@ use native.Mathlib.Omega.{arith}
 use Rattle.calls.specs.Views.{sizesOf}
 use Rattle.channel.proofs.Sections.{word-section-is}
 use Rattle.sizes.proofs.Bounds.{picture-bound, most-waiting-bound, word-section-bound}
-use Rattle.receiver.proofs.StateQuestions.{word-area-is}
+use Rattle.receiver_state.proofs.StateQuestions.{word-area-is}
 use Rattle.receiver.proofs.SetupCalls.{first-fits, both-zeroed}
 use borrow.Author.Needs.{needs}
 use Rattle.receiver.proofs.setting_up.zero_pictures.Statement.{statement}

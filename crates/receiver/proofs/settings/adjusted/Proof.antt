@@ -1,9 +1,9 @@
 -- `receiver::settings::adjusted` meets its contract. Assumes nothing.
-use mathlib.Core.Path.{_≡_, refl, sym, _∙_, ap}
+use mathlib.Core.Path.{sym, _∙_}
 use borrow.Author.Tests.{not-true, not-false}
 use Rattle.jitter_buffer.proofs.HeldKept.{WordsFit}
 use Rattle.receiver.proofs.SettingCalls.{set-refused, set-called}
-use Rattle.receiver.proofs.SideCalls.{channel-set-calls}
+use Rattle.receiver_state.proofs.SideCalls.{channel-set-calls}
 use borrow.Author.Needs.{needs}
 use Rattle.receiver.proofs.settings.adjusted.Statement.{statement}
 use Rattle.receiver.proofs.settings.adjusted.Tie as tie
@@ -11,12 +11,15 @@ use Rattle.receiver.proofs.settings.adjusted.Tie as tie
 settings-finite-requires : tie.Need-settings-finite-requires
 settings-finite-requires c κs = search needs
 
+refusal-requires : tie.Need-refusal-requires
+refusal-requires c κs = search needs
+
 returns : tie.Need-returns
 returns c =
-    let s = c .before .before .before .before in
+    let s = c .before .before .before .before .before in
     let g = s .args in
-    let words : WordsFit (g .us .now) = λ i. c .before .before .shared-slice-known2 .given i .fits in
-    set-refused (g .r) (g .fs .now) (g .us .now) (s .pre) words (g .side) (g .settings) (sym (c .before .settings-finite .ensures) ∙ not-true _ (c .if1 .taken))
+    let words : WordsFit (g .us .now) = λ i. c .before .before .before .shared-slice-known2 .given i .fits in
+    rw (c .refusal .ensures) (set-refused (g .r) (g .fs .now) (g .us .now) (s .pre) words (g .side) (g .settings) (sym (c .before .before .settings-finite .ensures) ∙ not-true _ (c .before .if1 .taken)))
 
 channel-of-requires : tie.Need-channel-of-requires
 channel-of-requires c κs = search needs
@@ -45,6 +48,7 @@ adjusted-spec =
     tie.close
     (tie.spec
     settings-finite-requires
+    refusal-requires
     returns
     channel-of-requires
     set-requires

@@ -1,8 +1,7 @@
 -- `receiver::settings::cleared` meets its contract. Assumes nothing.
-use mathlib.Core.Path.{_≡_, refl, sym, _∙_, ap}
 use Rattle.jitter_buffer.proofs.HeldKept.{WordsFit}
 use Rattle.receiver.proofs.SettingCalls.{reset-called}
-use Rattle.receiver.proofs.SideCalls.{channel-set-calls}
+use Rattle.receiver_state.proofs.SideCalls.{channel-set-calls}
 use borrow.Author.Needs.{needs}
 use Rattle.receiver.proofs.settings.cleared.Statement.{statement}
 use Rattle.receiver.proofs.settings.cleared.Tie as tie

@@ -1,5 +1,5 @@
 -- `receiver::settings::settings_finite` meets its contract. Assumes nothing.
-use mathlib.Core.Path.{_≡_, refl, sym, _∙_, ap}
+use mathlib.Core.Path.{sym, _∙_}
 use borrow.Author.Tests.{not-true, not-false}
 use Rattle.model.specs.Questions.{finiteBits, settingsFinite}
 use borrow.Author.Needs.{needs}

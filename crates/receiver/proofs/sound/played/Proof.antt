@@ -1,21 +1,23 @@
 -- `receiver::sound::played` meets its contract. Assumes nothing.
-use mathlib.Core.Path.{_≡_, refl, sym, _∙_, ap}
 use native.Mathlib.Omega.{arith}
 use Rattle.jitter_buffer.proofs.HeldKept.{WordsFit}
-use Rattle.receiver.proofs.CallLaws.{sides-ready}
-use Rattle.receiver.proofs.SideCalls.{channel-set-calls}
-use Rattle.receiver.proofs.Lending.{floats-inside, words-inside, channel-ready}
+use Rattle.receiver_state.proofs.CallLaws.{sides-ready}
+use Rattle.receiver_state.proofs.SideCalls.{channel-set-calls}
+use Rattle.receiver_state.proofs.Lending.{floats-inside, words-inside, channel-ready}
 use Rattle.receiver.proofs.PlayCalls.{play-refused, play-called}
 use borrow.Author.Needs.{needs}
 use Rattle.receiver.proofs.sound.played.Statement.{statement}
 use Rattle.receiver.proofs.sound.played.Tie as tie
 
+refusal-requires : tie.Need-refusal-requires
+refusal-requires c κs = search needs
+
 returns : tie.Need-returns
 returns c =
-    let s = c .before .before .before .before in
+    let s = c .before .before .before .before .before in
     let g = s .args in
-    let words : WordsFit (g .us .now) = λ i. c .before .before .slice-known2 .given i .fits in
-    play-refused (g .r) (g .fs .now) (g .us .now) (s .pre) words (g .side) (g .out .now) (c .if1 .taken)
+    let words : WordsFit (g .us .now) = λ i. c .before .before .before .slice-known2 .given i .fits in
+    rw (c .refusal .ensures) (play-refused (g .r) (g .fs .now) (g .us .now) (s .pre) words (g .side) (g .out .now) (c .before .if1 .taken))
 
 starts-requires : tie.Need-starts-requires
 starts-requires c κs = search needs
@@ -102,6 +104,7 @@ pub played-spec : {M : Type 1} → statement M
 played-spec =
     tie.close
     (tie.spec
+    refusal-requires
     returns
     starts-requires
     channel-of-requires

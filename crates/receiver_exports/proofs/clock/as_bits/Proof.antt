@@ -1,14 +1,12 @@
 -- `receiver_exports::clock::as_bits` meets its contract: a number below 0 has the bits of what lacks to 2^64. Assumes nothing.
-use mathlib.Core.Path.{_≡_, refl, sym, ap, _∙_}
+use mathlib.Core.Path.{_≡_}
 use mathlib.Core.Bool.{true, false}
 use native.Mathlib.Omega.{arith}
-use Prim.Native.Nat.{_^_, _<_}
-use lib.IntN.{ℤ, pos, negsuc, natAbs, _-ℤ_}
+use lib.IntN.{pos}
 use lib.Signed.{mag, leZ}
 use mir.Syntax.{w64}
-use mir.Val.{SFits, Fits, toZ, ofZ}
+use mir.Val.{SFits}
 use mir.ValLaws.{toZ-ofZ}
-use Rattle.model.specs.Clock.{bits64}
 use Rattle.audio_metrics.proofs.DelayWords.{not-negative, bits-not-negative, minus-one-less-negative, bits-negative, natAbs-below}
 use Rattle.receiver_exports.proofs.clock.as_bits.Statement.{statement}
 use Rattle.receiver_exports.proofs.clock.as_bits.Tie as tie

@@ -1,9 +1,8 @@
 -- `receiver_exports::state::leave` meets its contract: the state is written where the answer is no refusal. Assumes nothing.
-use mathlib.Core.Bool.{true, false}
-use mathlib.Core.Path.{_≡_, sym, _∙_}
+use mathlib.Core.Path.{sym, _∙_}
 use borrow.Author.Tests.{not-true, not-false}
 use borrow.Author.Needs.{needs}
-use Rattle.receiver_exports.specs.State.{isRefused, stateLeft}
+use Rattle.receiver_exports.specs.State.{stateLeft}
 use Rattle.receiver_exports.proofs.state.leave.Statement.{statement}
 use Rattle.receiver_exports.proofs.state.leave.Tie as tie
 

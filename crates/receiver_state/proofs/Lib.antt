@@ -1,0 +1,5 @@
+pub mod StateQuestions
+pub mod CallLaws
+pub mod SideCalls
+pub mod Lending
+pub mod RowLending
