@@ -2,7 +2,6 @@
 // No call asks anything of its caller: every number, slice, area and state is answered, and a refusal changes nothing.
 pub mod clock;
 pub mod datagrams;
-pub mod readings;
 pub mod setting_up;
 pub mod settings;
 pub mod sound;

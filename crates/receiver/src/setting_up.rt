@@ -1,10 +1,5 @@
 // Setup: questions 1, 2 and 5, then both pictures zeroed and a fresh receiver.
 ghost use mathlib.Core.Path.{_≡_};
-ghost use mathlib.Core.Bool.{true, _&&_};
-ghost use Rattle.model.specs.Sizes.{sizesAllowed};
-ghost use Rattle.model.specs.Questions.{areasLong, estimatesFinite};
-ghost use Rattle.calls.specs.Views.{sizesOf, modelEstimates};
-ghost use Rattle.receiver_state.specs.View.{lentOf};
 ghost use Rattle.receiver.specs.Promises.{picturesZeroed, SetupDone};
 ghost use Rattle.receiver.specs.Setup.{SetupReady, SetupAsked, FreshReceiver};
 use crate::SetUp;
@@ -14,41 +9,9 @@ use calls::Sizes;
 use channel::Channel;
 use receiver_state::Receiver;
 use receiver_state::asking::Verdict;
+use receiver_state::asking::areas_long;
+use receiver_state::asking::both_finite;
 use udp::StreamCounts;
-
-// Question 2: whether both areas are long enough.
-fn areas_long(z: Sizes, fs: &[f32], us: &[u32]) -> bool
-    requires { ⌜ sizesAllowed (sizesOf z) ≡ true ⌝ }
-    ensures { λ v. ⌜ v ≡ areasLong (lentOf (now (fs .entry)) (now (us .entry))) (sizesOf z) ⌝ }
-{
-    if fs.len() < sizes::float_area(z) {
-        return false;
-    }
-    sizes::word_area(z) <= us.len()
-}
-
-// Question 5 of one channel's estimates: whether each is the pattern of a finite float.
-fn estimates_finite(e: Estimates) -> bool
-    ensures { λ v. ⌜ v ≡ estimatesFinite (modelEstimates e) ⌝ }
-{
-    if !floats::is_finite(floats::from_bits(e.top)) {
-        return false;
-    }
-    if !floats::is_finite(floats::from_bits(e.floor)) {
-        return false;
-    }
-    floats::is_finite(floats::from_bits(e.range))
-}
-
-// Question 5 of both channels' estimates.
-fn both_finite(a: Estimates, b: Estimates) -> bool
-    ensures { λ v. ⌜ v ≡ estimatesFinite (modelEstimates a) && estimatesFinite (modelEstimates b) ⌝ }
-{
-    if !estimates_finite(a) {
-        return false;
-    }
-    estimates_finite(b)
-}
 
 // Questions 1, 2 and 5, in their order.
 fn setup_asked(z: Sizes, a: Estimates, b: Estimates, fs: &[f32], us: &[u32]) -> Verdict

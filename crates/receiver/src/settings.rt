@@ -1,8 +1,6 @@
 // A channel's reset and its settings. They leave both areas as they are.
-ghost use mathlib.Core.Path.{_≡_};
 ghost use mathlib.Core.List.{[]};
 ghost use Rattle.model.specs.Receiver.{reset, set};
-ghost use Rattle.model.specs.Questions.{settingsFinite};
 ghost use Rattle.calls.specs.Views.{modelSide, modelSettings};
 ghost use Rattle.receiver_state.specs.View.{answerOf};
 ghost use Rattle.receiver_state.specs.Promises.{Ready, Called};
@@ -13,26 +11,11 @@ use receiver_state::Answered;
 use receiver_state::Receiver;
 use receiver_state::asking::Verdict;
 use receiver_state::asking::asked;
+use receiver_state::asking::settings_finite;
 use receiver_state::counted::count_call;
 use receiver_state::counted::refusal;
 use receiver_state::sides::channel_of;
 use receiver_state::sides::with_channel;
-
-// Question 5 of settings: whether each is the pattern of a finite float.
-fn settings_finite(x: Settings) -> bool
-    ensures { λ v. ⌜ v ≡ settingsFinite (modelSettings x) ⌝ }
-{
-    if !floats::is_finite(floats::from_bits(x.top)) {
-        return false;
-    }
-    if !floats::is_finite(floats::from_bits(x.range)) {
-        return false;
-    }
-    if !floats::is_finite(floats::from_bits(x.zoom)) {
-        return false;
-    }
-    floats::is_finite(floats::from_bits(x.smoothing))
-}
 
 // A reset that questions 1 to 4 let through.
 fn cleared(r: Receiver, fs: &[f32], us: &[u32], side: Side) -> Answered

@@ -3,3 +3,4 @@ pub mod CallLaws
 pub mod SideCalls
 pub mod Lending
 pub mod RowLending
+pub mod Reading

@@ -1,3 +1,4 @@
 pub mod View
 pub mod Fields
 pub mod Promises
+pub mod Readings

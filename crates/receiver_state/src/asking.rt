@@ -1,12 +1,17 @@
-// Questions 1 to 4, which every call asks before its own.
+// Questions 1 to 4, which every call asks before its own; and 2 and 5, as setup and set ask them.
 ghost use mathlib.Core.Path.{_≡_};
 ghost use Prim.Native.Nat.{_≤_};
-ghost use mathlib.Core.Bool.{true};
+ghost use mathlib.Core.Bool.{true, _&&_};
 ghost use lib.ListN.{length};
 ghost use Rattle.model.specs.Sizes.{sizesAllowed, wordArea};
-ghost use Rattle.calls.specs.Views.{sizesOf};
+ghost use Rattle.model.specs.Questions.{areasLong, estimatesFinite, settingsFinite};
+ghost use Rattle.calls.specs.Views.{sizesOf, modelEstimates, modelSettings};
+ghost use Rattle.receiver_state.specs.View.{lentOf};
 ghost use Rattle.receiver_state.specs.Promises.{StateAsked, EarlyAsked};
 use crate::Receiver;
+use calls::Estimates;
+use calls::Settings;
+use calls::Sizes;
 
 // The number of the first question that is answered with no, if one is.
 pub enum Verdict {
@@ -66,4 +71,54 @@ pub fn asked(r: Receiver, fs: &[f32], us: &[u32]) -> Verdict
         return Verdict::No(4);
     }
     Verdict::Yes
+}
+
+// Question 2: whether both areas are long enough.
+pub fn areas_long(z: Sizes, fs: &[f32], us: &[u32]) -> bool
+    requires { ⌜ sizesAllowed (sizesOf z) ≡ true ⌝ }
+    ensures { λ v. ⌜ v ≡ areasLong (lentOf (now (fs .entry)) (now (us .entry))) (sizesOf z) ⌝ }
+{
+    if fs.len() < sizes::float_area(z) {
+        return false;
+    }
+    sizes::word_area(z) <= us.len()
+}
+
+// Question 5 of one channel's estimates: whether each is the pattern of a finite float.
+fn estimates_finite(e: Estimates) -> bool
+    ensures { λ v. ⌜ v ≡ estimatesFinite (modelEstimates e) ⌝ }
+{
+    if !floats::is_finite(floats::from_bits(e.top)) {
+        return false;
+    }
+    if !floats::is_finite(floats::from_bits(e.floor)) {
+        return false;
+    }
+    floats::is_finite(floats::from_bits(e.range))
+}
+
+// Question 5 of both channels' estimates.
+pub fn both_finite(a: Estimates, b: Estimates) -> bool
+    ensures { λ v. ⌜ v ≡ estimatesFinite (modelEstimates a) && estimatesFinite (modelEstimates b) ⌝ }
+{
+    if !estimates_finite(a) {
+        return false;
+    }
+    estimates_finite(b)
+}
+
+// Question 5 of settings: whether each is the pattern of a finite float.
+pub fn settings_finite(x: Settings) -> bool
+    ensures { λ v. ⌜ v ≡ settingsFinite (modelSettings x) ⌝ }
+{
+    if !floats::is_finite(floats::from_bits(x.top)) {
+        return false;
+    }
+    if !floats::is_finite(floats::from_bits(x.range)) {
+        return false;
+    }
+    if !floats::is_finite(floats::from_bits(x.zoom)) {
+        return false;
+    }
+    floats::is_finite(floats::from_bits(x.smoothing))
 }

@@ -1,7 +1,8 @@
-// A receiver's state, questions 1 to 4 of it, and the work on one channel before a call is counted. The state goes in by
-// value and comes back; the two areas are lent. The crate receiver has the calls.
+// A receiver's state, the questions about it, its readings, and the work on one channel before a call is counted. The state
+// goes in by value and comes back; the two areas are lent. The crate receiver has the calls.
 pub mod asking;
 pub mod counted;
+pub mod readings;
 pub mod sides;
 
 use audio_metrics::AudioMetrics;

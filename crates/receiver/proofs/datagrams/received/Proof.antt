@@ -1,5 +1,4 @@
 -- `receiver::datagrams::received` meets its contract: questions 6, 7 and 8, and then the stream. Assumes nothing.
-use mathlib.Core.Path.{sym, _∙_}
 use Rattle.receiver.proofs.DatagramCalls.{bytes-are, too-short, too-long, header-refused, headers-told, length-asked, header-found, header-missing, stream-found}
 use borrow.Author.Needs.{needs}
 use Rattle.receiver.proofs.datagrams.received.Statement.{statement}

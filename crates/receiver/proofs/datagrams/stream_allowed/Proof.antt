@@ -1,5 +1,4 @@
 -- `receiver::datagrams::stream_allowed` meets its contract. Assumes nothing.
-use mathlib.Core.Path.{_≡_, _∙_}
 use Rattle.model.specs.Questions.{streamAllowed}
 use Rattle.receiver_state.proofs.Lending.{whole-end}
 use borrow.Author.Needs.{needs}

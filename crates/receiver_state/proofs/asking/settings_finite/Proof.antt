@@ -1,10 +1,10 @@
--- `receiver::settings::settings_finite` meets its contract. Assumes nothing.
+-- `receiver_state::asking::settings_finite` meets its contract. Assumes nothing.
 use mathlib.Core.Path.{sym, _∙_}
 use borrow.Author.Tests.{not-true, not-false}
 use Rattle.model.specs.Questions.{finiteBits, settingsFinite}
 use borrow.Author.Needs.{needs}
-use Rattle.receiver.proofs.settings.settings_finite.Statement.{statement}
-use Rattle.receiver.proofs.settings.settings_finite.Tie as tie
+use Rattle.receiver_state.proofs.asking.settings_finite.Statement.{statement}
+use Rattle.receiver_state.proofs.asking.settings_finite.Tie as tie
 
 from-bits-requires : tie.Need-from-bits-requires
 from-bits-requires c κs = search needs

@@ -1,13 +1,13 @@
--- `receiver::readings::picture_place` meets its contract. Assumes nothing.
+-- `receiver_state::readings::picture_place` meets its contract. Assumes nothing.
 use mathlib.Core.Path.{sym, _∙_}
 use native.Mathlib.Omega.{arith}
 use borrow.Author.Tests.{not-true, not-false}
 use Rattle.calls.specs.Views.{sizesOf}
 use Rattle.sizes.proofs.Bounds.{most-waiting-bound}
-use Rattle.receiver.proofs.SetupCalls.{word-start-bound}
+use Rattle.receiver_state.proofs.Reading.{word-start-bound}
 use borrow.Author.Needs.{needs}
-use Rattle.receiver.proofs.readings.picture_place.Statement.{statement}
-use Rattle.receiver.proofs.readings.picture_place.Tie as tie
+use Rattle.receiver_state.proofs.readings.picture_place.Statement.{statement}
+use Rattle.receiver_state.proofs.readings.picture_place.Tie as tie
 
 allowed-requires : tie.Need-allowed-requires
 allowed-requires c κs = search needs

@@ -1,11 +1,11 @@
--- `receiver::readings::buffered_in` meets its contract. Assumes nothing.
+-- `receiver_state::readings::buffered_in` meets its contract. Assumes nothing.
 use mathlib.Core.Path.{sym, _∙_}
 use native.Mathlib.Omega.{arith}
 use borrow.Author.Tests.{not-true, not-false, le-leb, lt-leb, lt-ltb, le-ltb}
 use Rattle.model.proofs.SizeLaws.{allowed}
 use borrow.Author.Needs.{needs}
-use Rattle.receiver.proofs.readings.buffered_in.Statement.{statement}
-use Rattle.receiver.proofs.readings.buffered_in.Tie as tie
+use Rattle.receiver_state.proofs.readings.buffered_in.Statement.{statement}
+use Rattle.receiver_state.proofs.readings.buffered_in.Tie as tie
 
 allowed-requires : tie.Need-allowed-requires
 allowed-requires c κs = search needs

@@ -1,7 +1,7 @@
--- `receiver::readings::buffered_samples` meets its contract. Assumes nothing.
+-- `receiver_state::readings::buffered_samples` meets its contract. Assumes nothing.
 use borrow.Author.Needs.{needs}
-use Rattle.receiver.proofs.readings.buffered_samples.Statement.{statement}
-use Rattle.receiver.proofs.readings.buffered_samples.Tie as tie
+use Rattle.receiver_state.proofs.readings.buffered_samples.Statement.{statement}
+use Rattle.receiver_state.proofs.readings.buffered_samples.Tie as tie
 
 channel-of-requires : tie.Need-channel-of-requires
 channel-of-requires c κs = search needs

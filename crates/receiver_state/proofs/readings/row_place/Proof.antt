@@ -1,12 +1,12 @@
--- `receiver::readings::row_place` meets its contract. Assumes nothing.
+-- `receiver_state::readings::row_place` meets its contract. Assumes nothing.
 use mathlib.Core.Path.{sym, _∙_, ap}
 use native.Mathlib.Omega.{arith}
 use borrow.Author.Tests.{not-true, not-false}
 use Rattle.sizes.specs.declared.Offsets.{Offsets}
-use Rattle.receiver.proofs.SetupCalls.{float-start-bound, row-at-bound}
+use Rattle.receiver_state.proofs.Reading.{float-start-bound, row-at-bound}
 use borrow.Author.Needs.{needs}
-use Rattle.receiver.proofs.readings.row_place.Statement.{statement}
-use Rattle.receiver.proofs.readings.row_place.Tie as tie
+use Rattle.receiver_state.proofs.readings.row_place.Statement.{statement}
+use Rattle.receiver_state.proofs.readings.row_place.Tie as tie
 
 allowed-requires : tie.Need-allowed-requires
 allowed-requires c κs = search needs

@@ -3,14 +3,14 @@
 // numbers are public functions of AudioMetrics that ask nothing.
 ghost use mathlib.Core.Path.{_≡_};
 ghost use Rattle.calls.specs.Views.{sizesOf};
 ghost use Rattle.receiver_state.specs.View.{rowPlace, channelAt};
-ghost use Rattle.receiver.specs.Readings.{picturePlace, placeIn, bufferedIn};
+ghost use Rattle.receiver_state.specs.Readings.{picturePlace, placeIn, bufferedIn};
+use crate::Receiver;
+use crate::sides::channel_of;
+use crate::sides::starts;
 use calls::Side;
 use calls::Sizes;
 use jitter_buffer::JitterBuffer;
-use receiver_state::Receiver;
-use receiver_state::sides::channel_of;
-use receiver_state::sides::starts;
 
 // A place in a lent area.
 pub enum Place {

@@ -1,9 +1,9 @@
--- `receiver::setting_up::areas_long` meets its contract. Assumes nothing.
+-- `receiver_state::asking::areas_long` meets its contract. Assumes nothing.
 use borrow.Author.Tests.{le-leb, lt-leb}
 use Rattle.model.specs.Questions.{areasLong}
 use borrow.Author.Needs.{needs}
-use Rattle.receiver.proofs.setting_up.areas_long.Statement.{statement}
-use Rattle.receiver.proofs.setting_up.areas_long.Tie as tie
+use Rattle.receiver_state.proofs.asking.areas_long.Statement.{statement}
+use Rattle.receiver_state.proofs.asking.areas_long.Tie as tie
 
 float-area-requires : tie.Need-float-area-requires
 float-area-requires c κs = search needs

@@ -1,9 +1,9 @@
--- `receiver::setting_up::both_finite` meets its contract. Assumes nothing.
+-- `receiver_state::asking::both_finite` meets its contract. Assumes nothing.
 use mathlib.Core.Path.{sym, _∙_}
 use borrow.Author.Tests.{not-true, not-false}
 use borrow.Author.Needs.{needs}
-use Rattle.receiver.proofs.setting_up.both_finite.Statement.{statement}
-use Rattle.receiver.proofs.setting_up.both_finite.Tie as tie
+use Rattle.receiver_state.proofs.asking.both_finite.Statement.{statement}
+use Rattle.receiver_state.proofs.asking.both_finite.Tie as tie
 
 estimates-finite-requires : tie.Need-estimates-finite-requires
 estimates-finite-requires c κs = search needs

@@ -8,11 +8,11 @@ use Rattle.calls.specs.declared.Side.{Side}
 use Rattle.calls.specs.declared.Sizes.{Sizes}
 use Rattle.calls.specs.Views.{sizesOf}
 use Rattle.jitter_buffer.specs.declared.JitterBuffer.{JitterBuffer}
-use Rattle.receiver.specs.declared.readings.Place.{Place}
-use Rattle.receiver.specs.declared.readings.Place.the-variants.{At, NoSizes}
-use Rattle.receiver.specs.declared.readings.Buffered.{Buffered}
-use Rattle.receiver.specs.declared.readings.Buffered.the-variants.{Samples, NotAllowed, TooLong}
+use Rattle.receiver_state.specs.declared.readings.Place.{Place}
+use Rattle.receiver_state.specs.declared.readings.Place.the-variants.{At, NoSizes}
+use Rattle.receiver_state.specs.declared.readings.Buffered.{Buffered}
+use Rattle.receiver_state.specs.declared.readings.Buffered.the-variants.{Samples, NotAllowed, TooLong}
 use Rattle.receiver_state.specs.View.{wordStart}
 
 -- where a channel's picture begins in the u32 area: behind its waiting sequences
 abbrev pub picturePlace : Sizing.Sizes → Side → ℕ

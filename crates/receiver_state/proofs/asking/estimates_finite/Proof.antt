@@ -1,10 +1,10 @@
--- `receiver::setting_up::estimates_finite` meets its contract. Assumes nothing.
+-- `receiver_state::asking::estimates_finite` meets its contract. Assumes nothing.
 use mathlib.Core.Path.{sym, _∙_}
 use borrow.Author.Tests.{not-true, not-false}
 use Rattle.model.specs.Questions.{finiteBits, estimatesFinite}
 use borrow.Author.Needs.{needs}
-use Rattle.receiver.proofs.setting_up.estimates_finite.Statement.{statement}
-use Rattle.receiver.proofs.setting_up.estimates_finite.Tie as tie
+use Rattle.receiver_state.proofs.asking.estimates_finite.Statement.{statement}
+use Rattle.receiver_state.proofs.asking.estimates_finite.Tie as tie
 
 from-bits-requires : tie.Need-from-bits-requires
 from-bits-requires c κs = search needs
