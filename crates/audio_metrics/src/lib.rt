@@ -2,7 +2,7 @@
 // The state goes in by value and comes back. A number that is not there yet is a case of its own.
 // The functions take what the receiver's questions let through: a held clock, and numbers in the range of question 9.
 pub mod exports;
-mod words;
+pub mod words;
 
 ghost use mathlib.Core.Path.{_≡_};
 ghost use Prim.Native.Nat.{_<_, _≤_, _^_};

@@ -13,7 +13,8 @@ use crate::OneWay;
 use crate::Timing;
 use udp_framing::words::as_signed;
 
-fn float_from(word: u64) -> f32
+// The float of a word: its pattern is the low half.
+pub fn float_from(word: u64) -> f32
     ensures { λ r. ⌜ r ≡ floatIn word ⌝ }
 {
     floats::from_bits((word % 4294967296) as u32)
@@ -53,7 +54,7 @@ fn jitter_from(known: u64, avg: u64, peak: u64) -> Jitter
     })
 }
 
-pub(crate) fn from_words(w: &[u64; 14]) -> AudioMetrics
+pub fn from_words(w: &[u64; 14]) -> AudioMetrics
     ensures { λ r. ⌜ clockOf r ≡ clockIn (now (w .entry)) ⌝ }
 {
     let timing = timing_from(w[0], w[1], w[2], w[3]);
@@ -90,7 +91,7 @@ fn one_way_words(one_way: OneWay) -> [u64; 2]
 }
 
 // The word of a float: its pattern.
-fn float_word(x: f32) -> u64
+pub fn float_word(x: f32) -> u64
     ensures { λ r. ⌜ r ≡ toBits x ⌝ }
 {
     floats::to_bits(x) as u64
@@ -105,7 +106,7 @@ fn jitter_words(jitter: Jitter) -> [u64; 3]
     [1, float_word(d.jitter_avg_ms), float_word(d.jitter_peak_ms)]
 }
 
-pub(crate) fn to_words(m: AudioMetrics) -> [u64; 14]
+pub fn to_words(m: AudioMetrics) -> [u64; 14]
     ensures { λ r. ⌜ r ≡ clockWords (clockOf m) ⌝ }
 {
     let timing = m.timing;

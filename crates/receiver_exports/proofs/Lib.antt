@@ -1,4 +1,3 @@
-pub mod Stored
 pub mod ClockBack
 pub mod Exporting
 pub mod ReadBack

@@ -1,11 +1,10 @@
 // A receiver in words, and its answers.
 ghost use mathlib.Core.Path.{_≡_};
-ghost use Prim.Native.Nat.{_+_, _≤_};
+ghost use Prim.Native.Nat.{_≤_};
 ghost use lib.ListN.{length};
 ghost use lib.Seq.{sets};
 ghost use Rattle.receiver_exports.specs.State.{channelRead, receiverAt, headWords, receiverWords, answerWords, isRefused, stateLeft, setupWords, setupLeft};
 use crate::clock::clock_from;
-use crate::clock::clock_words;
 use crate::words::buffer_from;
 use crate::words::buffer_words;
 use crate::words::count_words;
@@ -13,7 +12,9 @@ use crate::words::counts_from;
 use crate::words::screen_from;
 use crate::words::screen_words;
 use crate::words::sizes_from;
+use audio_metrics::words::to_words;
 use channel::Channel;
+use numbers::put;
 use receiver::SetUp;
 use receiver_state::Answer;
 use receiver_state::Answered;
@@ -51,18 +52,6 @@ pub fn receiver_at(w: &[u64]) -> Receiver
     }
 }
 
-// Stores the words from a place on.
-fn put(w: &mut [u64], at: usize, words: &[u64])
-    requires { ⌜ at + length (now words) ≤ length (now w) ⌝ }
-    ensures { λ _. ⌜ now (w .exit) ≡ sets (now (w .entry)) at (now (words .entry)) ⌝ }
-{
-    let mut i = 0;
-    while i < words.len() {
-        w[at + i] = words[i];
-        i += 1;
-    }
-}
-
 fn head_words(r: Receiver) -> [u64; 8]
     ensures { λ v. ⌜ v ≡ headWords r ⌝ }
 {
@@ -93,7 +82,7 @@ fn write_receiver(w: &mut [u64], r: Receiver)
     put(w, 32, &screen_words(a.screen));
     put(w, 47, &buffer_words(b.jitter));
     put(w, 61, &screen_words(b.screen));
-    put(w, 76, &clock_words(r.clock));
+    put(w, 76, &to_words(r.clock));
 }
 
 fn answer_words(a: Answer) -> [u64; 4]

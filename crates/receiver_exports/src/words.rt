@@ -2,9 +2,9 @@
 ghost use mathlib.Core.Path.{_≡_};
 ghost use Prim.Native.Nat.{_≤_};
 ghost use lib.ListN.{length};
-ghost use Rattle.model.specs.Floats.{toBits};
-ghost use Rattle.audio_metrics.specs.Words.{floatIn};
 ghost use Rattle.receiver_exports.specs.Words.{sizesIn, lastIn, countsIn, nextIn, bufferIn, rowIn, displayIn, screenIn, flagWord, knownWord, lastWord, countWords, startedWord, nextWord, bufferWords, rowWords, screenWords};
+use audio_metrics::words::float_from;
+use audio_metrics::words::float_word;
 use calls::Sizes;
 use jitter_buffer::JitterBuffer;
 use jitter_buffer::NextSequence;
@@ -14,19 +14,6 @@ use udp::StreamCounts;
 use udp::packets::Screen;
 use udp::reassembler::OpenRow;
 use udp::reassembler::WaterfallReassembler;
-
-// The float of a word: its pattern is the low half.
-pub fn float_from(word: u64) -> f32
-    ensures { λ r. ⌜ r ≡ floatIn word ⌝ }
-{
-    floats::from_bits((word % 4294967296) as u32)
-}
-
-pub fn float_word(x: f32) -> u64
-    ensures { λ r. ⌜ r ≡ toBits x ⌝ }
-{
-    floats::to_bits(x) as u64
-}
 
 fn flag_word(b: bool) -> u64
     ensures { λ r. ⌜ r ≡ flagWord b ⌝ }

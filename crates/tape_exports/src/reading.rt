@@ -1,7 +1,7 @@
 // Reading a tape.
 ghost use Rattle.tape_exports.specs.Promises.{VerdictHanded, SetupHanded, CallHanded};
-use crate::numbers::put_found;
-use crate::numbers::put_setup;
+use crate::answers::put_found;
+use crate::answers::put_setup;
 use tape::Checked;
 use tape::SetupRead;
 use tape::reader;

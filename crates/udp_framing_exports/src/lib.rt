@@ -1,26 +1,17 @@
 // udp_framing for callers in other languages: numbers go as themselves, and a value of several numbers into a slice
 // that the caller lends. What the slice has no room for is left out.
 ghost use mathlib.Core.Path.{_≡_};
-ghost use lib.ListN.{set};
 ghost use Rattle.model.specs.Framing.{parseHeader, validHeader, audioStart, audioSendTime, buildRequest, buildResponse, parseRequest, parseResponse};
 ghost use Rattle.model.specs.Clock.{probeOffset, probeRoundTrip};
 ghost use Rattle.udp_framing.specs.Views.{headerOf};
 ghost use Rattle.udp_framing_exports.specs.Handing.{headerWith, headerNumbers, timeNumbers, requestNumbers, responseNumbers, HandedFrom, BuiltOr0};
+use numbers::put;
 use udp_framing::Built;
 use udp_framing::MediaHeader;
 use udp_framing::ParsedHeader;
 use udp_framing::SendWall;
 use udp_framing::TimeSyncRequest;
 use udp_framing::TimeSyncResponse;
-
-// Stores a number where the slice has the place.
-fn put(numbers: &mut [u64], at: usize, n: u64)
-    ensures { λ _. ⌜ now (numbers .exit) ≡ set (now (numbers .entry)) at n ⌝ }
-{
-    if at < numbers.len() {
-        numbers[at] = n;
-    }
-}
 
 // Magic, version, stream type, sequence and timestamp.
 #[no_mangle]
@@ -30,11 +21,14 @@ pub extern "C" fn udp_framing_parse_media_header(packet: &[u8], numbers: &mut [u
     let ParsedHeader::Header(header) = udp_framing::parse_media_header(packet) else {
         return false;
     };
-    put(numbers, 0, header.magic as u64);
-    put(numbers, 1, header.version as u64);
-    put(numbers, 2, header.stream_type as u64);
-    put(numbers, 3, header.sequence as u64);
-    put(numbers, 4, header.timestamp);
+    let fields = [
+        header.magic as u64,
+        header.version as u64,
+        header.stream_type as u64,
+        header.sequence as u64,
+        header.timestamp,
+    ];
+    put(numbers, 0, &fields);
     true
 }
 
@@ -77,7 +71,7 @@ pub extern "C" fn udp_framing_audio_send_wall_ns(
     let SendWall::Ns(n) = udp_framing::audio_send_wall_ns(header_with(0, version), packet) else {
         return false;
     };
-    put(numbers, 0, n);
+    put(numbers, 0, &[n]);
     true
 }
 
@@ -128,8 +122,7 @@ pub extern "C" fn udp_framing_parse_time_sync_request(packet: &[u8], numbers: &m
     else {
         return false;
     };
-    put(numbers, 0, probe_id as u64);
-    put(numbers, 1, t1_ns);
+    put(numbers, 0, &[probe_id as u64, t1_ns]);
     true
 }
 
@@ -147,10 +140,7 @@ pub extern "C" fn udp_framing_parse_time_sync_response(packet: &[u8], numbers: &
     else {
         return false;
     };
-    put(numbers, 0, probe_id as u64);
-    put(numbers, 1, t1_ns);
-    put(numbers, 2, t2_ns);
-    put(numbers, 3, t3_ns);
+    put(numbers, 0, &[probe_id as u64, t1_ns, t2_ns, t3_ns]);
     true
 }
 

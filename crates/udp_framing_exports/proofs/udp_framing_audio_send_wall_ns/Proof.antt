@@ -1,4 +1,4 @@
--- `udp_framing_exports::udp_framing_audio_send_wall_ns` meets its contract: the time that was found is stored. Assumes nothing.
+-- `udp_framing_exports::udp_framing_audio_send_wall_ns` meets its contract. Assumes nothing.
 use Rattle.udp_framing.specs.Views.{sendTimeFound}
 use Rattle.udp_framing_exports.specs.Handing.{timeNumbers}
 use Rattle.udp_framing_exports.proofs.HandedOver.{nothing-handed, all-handed}
@@ -28,6 +28,9 @@ returns c =
     (sym (ap sendTimeFound (c .enum-told .given .1)) ∙ called .audio-send-wall-ns .ensures
     ∙ ap (λ (h : Header). audioSendTime h (start .args .packet .now)) (called .before .header-with .ensures))
 
+slice-aggregate-put : tie.Need-slice-aggregate-put
+slice-aggregate-put c = search needs
+
 put-requires : tie.Need-put-requires
 put-requires c κs = search needs
 
@@ -36,14 +39,13 @@ same-length c = search needs
 
 returns-2 : tie.Need-returns-2
 returns-2 c =
-    let stored = c .before .before in
-    let held = stored .before .before .before in
+    let held = c .before .before .before .before .before .before in
     let called = held .before .before in
     let start = called .before .before .before .before in
     all-handed timeNumbers
     (sym (ap sendTimeFound (held .n .given .1)) ∙ called .audio-send-wall-ns .ensures
     ∙ ap (λ (h : Header). audioSendTime h (start .args .packet .now)) (called .before .header-with .ensures))
-    (stored .put .ensures)
+    (c .before .before .put .ensures)
 
 pub udp-framing-audio-send-wall-ns-spec : {M : Type 1} → statement M
 udp-framing-audio-send-wall-ns-spec =
@@ -54,6 +56,7 @@ udp-framing-audio-send-wall-ns-spec =
     enum-known-n
     enum-told
     returns
+    slice-aggregate-put
     put-requires
     same-length
     returns-2)

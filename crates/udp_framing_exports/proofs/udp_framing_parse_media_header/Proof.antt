@@ -1,4 +1,4 @@
--- `udp_framing_exports::udp_framing_parse_media_header` meets its contract: each field is stored behind the one before. Assumes nothing.
+-- `udp_framing_exports::udp_framing_parse_media_header` meets its contract. Assumes nothing.
 use Rattle.udp_framing.specs.Views.{headerFound}
 use Rattle.udp_framing_exports.specs.Handing.{headerNumbers}
 use Rattle.udp_framing_exports.proofs.HandedOver.{nothing-handed, all-handed}
@@ -21,47 +21,32 @@ returns c =
     let called = c .before .before in
     nothing-handed headerNumbers (called .before .before .before .args .numbers .now) (sym (ap headerFound (c .enum-told .given .1)) ∙ called .parse-media-header .ensures)
 
-cast-put : tie.Need-cast-put
-cast-put c = search needs
+cast-t6 : tie.Need-cast-t6
+cast-t6 c = search needs
+
+cast-t7 : tie.Need-cast-t7
+cast-t7 c = search needs
+
+cast-t8 : tie.Need-cast-t8
+cast-t8 c = search needs
+
+cast-t9 : tie.Need-cast-t9
+cast-t9 c = search needs
+
+slice-aggregate-put : tie.Need-slice-aggregate-put
+slice-aggregate-put c = search needs
 
 put-requires : tie.Need-put-requires
 put-requires c κs = search needs
-
-cast-put-2 : tie.Need-cast-put-2
-cast-put-2 c = search needs
-
-put-requires-2 : tie.Need-put-requires-2
-put-requires-2 c κs = search needs
-
-cast-put-3 : tie.Need-cast-put-3
-cast-put-3 c = search needs
-
-put-requires-3 : tie.Need-put-requires-3
-put-requires-3 c κs = search needs
-
-cast-put-4 : tie.Need-cast-put-4
-cast-put-4 c = search needs
-
-put-requires-4 : tie.Need-put-requires-4
-put-requires-4 c κs = search needs
-
-put-requires-5 : tie.Need-put-requires-5
-put-requires-5 c κs = search needs
 
 same-length : tie.Need-same-length
 same-length c = search needs
 
 returns-2 : tie.Need-returns-2
 returns-2 c =
-    let fifth = c .before .before in
-    let fourth = fifth .before .before .before .before in
-    let third = fourth .before .before .before .before .before in
-    let second = third .before .before .before .before .before in
-    let first = second .before .before .before .before .before in
-    let held = first .before .before .before .before in
+    let held = c .before .before .before .before .before .before .before .before .before .before in
     let called = held .before .before in
-    all-handed headerNumbers (sym (ap headerFound (held .header .given .1)) ∙ called .parse-media-header .ensures)
-    (rw (fifth .put5 .ensures, fourth .put4 .ensures, third .put3 .ensures, second .put2 .ensures, first .put .ensures))
+    all-handed headerNumbers (sym (ap headerFound (held .header .given .1)) ∙ called .parse-media-header .ensures) (c .before .before .put .ensures)
 
 pub udp-framing-parse-media-header-spec : {M : Type 1} → statement M
 udp-framing-parse-media-header-spec =
@@ -71,14 +56,11 @@ udp-framing-parse-media-header-spec =
     enum-known-header
     enum-told
     returns
-    cast-put
+    cast-t6
+    cast-t7
+    cast-t8
+    cast-t9
+    slice-aggregate-put
     put-requires
-    cast-put-2
-    put-requires-2
-    cast-put-3
-    put-requires-3
-    cast-put-4
-    put-requires-4
-    put-requires-5
     same-length
     returns-2)

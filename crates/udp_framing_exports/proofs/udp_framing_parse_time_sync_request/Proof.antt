@@ -1,4 +1,4 @@
--- `udp_framing_exports::udp_framing_parse_time_sync_request` meets its contract: each number is stored behind the one before. Assumes nothing.
+-- `udp_framing_exports::udp_framing_parse_time_sync_request` meets its contract. Assumes nothing.
 use Rattle.udp_framing.specs.Views.{requestAnswer}
 use Rattle.udp_framing_exports.specs.Handing.{requestNumbers}
 use Rattle.udp_framing_exports.proofs.HandedOver.{accepted-is-there, refused-is-missing, nothing-handed, all-handed}
@@ -24,26 +24,23 @@ returns c =
     nothing-handed requestNumbers (called .before .before .before .args .numbers .now)
     (refused-is-missing 10 10 _ (sym (ap requestAnswer (c .enum-told .given .1)) ∙ called .parse-time-sync-request .ensures))
 
-cast-put : tie.Need-cast-put
-cast-put c = search needs
+cast-t10 : tie.Need-cast-t10
+cast-t10 c = search needs
+
+slice-aggregate-put : tie.Need-slice-aggregate-put
+slice-aggregate-put c = search needs
 
 put-requires : tie.Need-put-requires
 put-requires c κs = search needs
-
-put-requires-2 : tie.Need-put-requires-2
-put-requires-2 c κs = search needs
 
 same-length : tie.Need-same-length
 same-length c = search needs
 
 returns-2 : tie.Need-returns-2
 returns-2 c =
-    let second = c .before .before in
-    let first = second .before .before .before .before in
-    let held = first .before .before .before in
+    let held = c .before .before .before .before .before .before in
     let called = held .before .before in
-    all-handed requestNumbers (accepted-is-there 10 _ (sym (ap requestAnswer (held .probe-id .given .1)) ∙ called .parse-time-sync-request .ensures))
-    (rw (second .put2 .ensures, first .put .ensures))
+    all-handed requestNumbers (accepted-is-there 10 _ (sym (ap requestAnswer (held .probe-id .given .1)) ∙ called .parse-time-sync-request .ensures)) (c .before .before .put .ensures)
 
 pub udp-framing-parse-time-sync-request-spec : {M : Type 1} → statement M
 udp-framing-parse-time-sync-request-spec =
@@ -53,8 +50,8 @@ udp-framing-parse-time-sync-request-spec =
     enum-known-probe-id
     enum-told
     returns
-    cast-put
+    cast-t10
+    slice-aggregate-put
     put-requires
-    put-requires-2
     same-length
     returns-2)

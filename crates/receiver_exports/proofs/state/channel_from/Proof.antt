@@ -1,7 +1,7 @@
 -- `receiver_exports::state::channel_from` meets its contract: each part is its words. Assumes nothing.
 use borrow.Author.Needs.{needs}
 use Rattle.receiver_exports.specs.State.{channelRead}
-use Rattle.receiver_exports.proofs.Stored.{rest-is}
+use Rattle.numbers.proofs.Stored.{rest-is}
 use Rattle.receiver_exports.proofs.state.channel_from.Statement.{statement}
 use Rattle.receiver_exports.proofs.state.channel_from.Tie as tie
 

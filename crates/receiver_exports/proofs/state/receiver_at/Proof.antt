@@ -3,7 +3,7 @@ use native.Mathlib.Omega.{arith}
 use borrow.Author.Needs.{needs}
 use Rattle.receiver_exports.specs.State.{receiverAt}
 use Rattle.receiver_exports.proofs.ClockBack.{clock-read}
-use Rattle.receiver_exports.proofs.Stored.{rest-is}
+use Rattle.numbers.proofs.Stored.{rest-is}
 use Rattle.receiver_exports.proofs.state.receiver_at.Statement.{statement}
 use Rattle.receiver_exports.proofs.state.receiver_at.Tie as tie
 

@@ -6,7 +6,7 @@ use borrow.Author.Needs.{needs}
 use Rattle.audio_metrics.specs.Words.{clockWords}
 use Rattle.receiver_exports.specs.State.{headWords, channelWords, receiverWords}
 use Rattle.receiver_exports.specs.Words.{countWords, bufferWords, screenWords}
-use Rattle.receiver_exports.proofs.Stored.{then}
+use Rattle.numbers.proofs.Stored.{then}
 use Rattle.receiver_exports.proofs.state.write_receiver.Statement.{statement}
 use Rattle.receiver_exports.proofs.state.write_receiver.Tie as tie
 
@@ -73,8 +73,8 @@ slice-aggregate-put-7 c = search needs
 put-requires-7 : tie.Need-put-requires-7
 put-requires-7 c κs = omega (arith, c .before .before .before .before .before .put6 .kept .0, c .before .before .before .before .before .before .before .before .before .before .before .put5 .kept .0, c .before .before .before .before .before .before .before .before .before .before .before .before .before .before .before .before .before .put4 .kept .0, c .before .before .before .before .before .before .before .before .before .before .before .before .before .before .before .before .before .before .before .before .before .before .before .put3 .kept .0, c .before .before .before .before .before .before .before .before .before .before .before .before .before .before .before .before .before .before .before .before .before .before .before .before .before .before .before .before .before .put2 .kept .0, c .before .before .before .before .before .before .before .before .before .before .before .before .before .before .before .before .before .before .before .before .before .before .before .before .before .before .before .before .before .before .before .before .before .before .before .put .kept .0, c .before .before .before .before .before .before .before .before .before .before .before .before .before .before .before .before .before .before .before .before .before .before .before .before .before .before .before .before .before .before .before .before .before .before .before .before .before .before .before .before .before .before .pre)
 
-clock-words-requires : tie.Need-clock-words-requires
-clock-words-requires c κs = search needs
+to-words-requires : tie.Need-to-words-requires
+to-words-requires c κs = search needs
 
 slice-aggregate-put-8 : tie.Need-slice-aggregate-put-8
 slice-aggregate-put-8 c = search needs
@@ -103,7 +103,7 @@ returns c = let w = c .before .before .before .before .before .before .before .b
     let a-screen = then w a-buffer-words 32 refl a-buffer (c .before .before .before .before .before .before .before .before .before .before .before .before .before .before .before .before .before .before .before .before .put5 .ensures) (c .before .before .before .before .before .before .before .before .before .before .before .before .before .before .before .before .before .before .before .before .before .before .screen-words .ensures) in
     let b-buffer = then w a-screen-words 47 refl a-screen (c .before .before .before .before .before .before .before .before .before .before .before .before .before .before .put6 .ensures) (c .before .before .before .before .before .before .before .before .before .before .before .before .before .before .before .before .buffer-words2 .ensures) in
     let b-screen = then w b-buffer-words 61 refl b-buffer (c .before .before .before .before .before .before .before .before .put7 .ensures) (c .before .before .before .before .before .before .before .before .before .before .screen-words2 .ensures) in
-    then w b-screen-words 76 refl b-screen (c .before .before .put8 .ensures) (c .before .before .before .before .clock-words .ensures)
+    then w b-screen-words 76 refl b-screen (c .before .before .put8 .ensures) (c .before .before .before .before .to-words .ensures)
 
 pub write-receiver-spec : {M : Type 1} → statement M
 write-receiver-spec =
@@ -130,7 +130,7 @@ write-receiver-spec =
     screen-words-requires-2
     slice-aggregate-put-7
     put-requires-7
-    clock-words-requires
+    to-words-requires
     slice-aggregate-put-8
     put-requires-8
     same-length

@@ -1,12 +1,12 @@
--- Words stored one after the other. Assumes nothing.
-use Prim.Native.Nat.{ℕ, suc, _+_, _-_, _<_}
-use mathlib.Core.Path.{_≡_, sym, _∙_, ap}
+-- Numbers stored one after the other, as far as a slice goes. Assumes nothing.
+use Prim.Native.Nat.{ℕ, suc, _+_, _-_, _≤_, _<_}
+use mathlib.Core.Path.{_≡_, refl, sym, _∙_, ap}
 use mathlib.Core.List.{List, [], _∷_, _++_}
 use native.Mathlib.Nat.{add-zero}
 use native.Mathlib.Numerals.{add-one}
 use native.Mathlib.Omega.{arith}
-use lib.ListN.{length, take, drop, set, getD, length-take, length-drop}
-use lib.Seq.{sets, take-suc, take-all}
+use lib.ListN.{length, take, drop, set, getD, length-take, length-drop, take-append-drop}
+use lib.Seq.{sets, length-sets, set-out, take-suc, take-all}
 
 -- one word more
 sets-behind : (w : List ℕ) (at : ℕ) (xs : List ℕ) (x : ℕ) → sets w at (xs ++ (x ∷ [])) ≡ set (sets w at xs) (at + length xs) x
@@ -26,6 +26,18 @@ rest-is w at = take-all (length w - at) (drop at w) (omega (arith, length-drop a
 sets-append : (w : List ℕ) (at : ℕ) (xs ys : List ℕ) → sets (sets w at xs) (at + length xs) ys ≡ sets w at (xs ++ ys)
 sets-append w at [] ys = ap (λ (i : ℕ). sets w i ys) (add-zero at)
 sets-append w at (x ∷ xs) ys = ap (λ (i : ℕ). sets (sets (set w at x) (suc at) xs) i ys) (omega arith) ∙ sets-append (set w at x) (suc at) xs ys
+
+-- nothing is stored behind the end
+sets-past : (w : List ℕ) (at : ℕ) (xs : List ℕ) → length w ≤ at → sets w at xs ≡ w
+sets-past w at [] past = refl
+sets-past w at (x ∷ xs) past = rw (set-out w at x past) (sets-past w (suc at) xs (omega arith))
+
+-- numbers up to the end are all that are stored
+pub sets-to-end : (w : List ℕ) (at i : ℕ) (xs : List ℕ) → i ≤ length xs → length w ≤ at + i → sets w at (take i xs) ≡ sets w at xs
+sets-to-end w at i xs few past =
+    let long : length (take i xs) ≡ i = simp length-take (omega arith) in
+    let rest = rw (long, take-append-drop i xs) at (sets-append w at (take i xs) (drop i xs)) in
+    sym (sets-past (sets w at (take i xs)) (at + i) (drop i xs) (rw (length-sets w at (take i xs)) past)) ∙ rest
 
 -- words stored right behind the first k
 pub then : (w xs : List ℕ) {v v′ ys zs : List ℕ} (k : ℕ) → length xs ≡ k → v ≡ sets w 0 xs → v′ ≡ sets v k zs → zs ≡ ys → v′ ≡ sets w 0 (xs ++ ys)
