@@ -15,7 +15,7 @@ use Rattle.receiver_state.specs.declared.Receiver.{Receiver}
 use Rattle.receiver_state.specs.declared.Answered.{Answered}
 use Rattle.receiver.specs.declared.SetUp.{SetUp}
 use Rattle.receiver.specs.Promises.{SetupDone}
-use Rattle.receiver_exports.specs.State.{receiverAt, answerWords, stateLeft, setupWords, setupLeft}
+use Rattle.receiver_words.specs.State.{receiverAt, answerWords, stateLeft, setupWords, setupLeft}
 use Rattle.receiver_exports.specs.Exported.{wordsThere, Promise, Exported, SetupExported}
 
 module _ (state answer : List ℕ) where

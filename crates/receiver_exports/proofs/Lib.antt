@@ -1,3 +1,1 @@
-pub mod ClockBack
 pub mod Exporting
-pub mod ReadBack

@@ -18,7 +18,7 @@ use Rattle.receiver.specs.declared.SetUp.{SetUp}
 use Rattle.receiver_state.specs.View.{answerOf}
 use Rattle.receiver_state.specs.Promises.{Called}
 use Rattle.receiver.specs.Promises.{PlayedOut, DatagramTaken, SetupDone}
-use Rattle.receiver_exports.specs.State.{receiverAt, answerWords, stateLeft, setupWords, setupLeft}
+use Rattle.receiver_words.specs.State.{receiverAt, answerWords, stateLeft, setupWords, setupLeft}
 
 -- 0 is channel A, and any other number B
 abbrev pub sideNamed : ℕ → Side

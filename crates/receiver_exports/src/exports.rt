@@ -5,15 +5,15 @@ ghost use mathlib.Core.Path.{_≡_};
 ghost use Rattle.model.specs.Receiver.{reset, set, probe, oneWay, depth, transmitDepth};
 ghost use Rattle.calls.specs.Views.{modelSide};
 ghost use Rattle.receiver_exports.specs.Exported.{sideNamed, wordsThere, Calls, Plays, Takes, NoneWritten, Exported, SetupExported};
-use crate::state::leave;
-use crate::state::leave_setup;
-use crate::state::receiver_at;
 use calls::DepthCounts;
 use calls::Estimates;
 use calls::Settings;
 use calls::Side;
 use calls::Sizes;
 use receiver::setting_up::setup;
+use receiver_words::state::leave;
+use receiver_words::state::leave_setup;
+use receiver_words::state::receiver_at;
 
 fn words_there(state: &[u64], answer: &[u64]) -> bool
     ensures { λ r. ⌜ r ≡ wordsThere (now (state .entry)) (now (answer .entry)) ⌝ }

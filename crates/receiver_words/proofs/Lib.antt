@@ -1,0 +1,2 @@
+pub mod ClockBack
+pub mod ReadBack
