@@ -1,6 +1,6 @@
 // Holds the receiver against the original: random sessions of setup and the eight calls on both channels, and after each
-// call the answer and everything that a receiver holds. Then states of every kind, where the answer is held against a
-// second writing of the questions, and after a refusal every word.
+// call the answer and everything that a receiver holds, and that nothing else of state and areas has changed. Then states
+// of every kind, where the answer is held against a second writing of the questions, and after a refusal every word.
 // Arguments: a seed, the number of sessions, and their sizes: small, set or largest. See receiver.sh.
 #![allow(warnings)]
 include!("rigflow.rs");
@@ -12,7 +12,7 @@ mod udp_sender;
 use audio_metrics::AudioMetrics;
 use original::{Original, Settings, FIRST_SETTINGS};
 use random::Random;
-use receiver_side::{setup_verdict, Call, Ours, Setup, Sizes, BOUND, CALLS, CLAUSES, CLOCK, DEPTH, HIGH, INCOMING, LOW, WORDS};
+use receiver_side::{setup_verdict, Call, Ours, Parts, Setup, Sizes, BOUND, CALLS, CLAUSES, CLOCK, DEPTH, HIGH, INCOMING, LOW, WORDS};
 use udp_sender::{header, level, not_finite, one_in, payload, pick, settings, spoil, values, Chunk, Sender, Values};
 use std::fmt::Debug;
 use ui::layout::{WATERFALL_IMAGE_HEIGHT as HEIGHT, WATERFALL_IMAGE_WIDTH as WIDTH};
@@ -22,6 +22,11 @@ struct Seen {
     refused: usize,
     rows: usize,
     longest: usize,
+    // rows with adaptive on, and rows with a setting or an estimate that is not finite
+    adaptive: usize,
+    not_finite: usize,
+    // settings and estimates that question 5 refuses, in a state that was handed in
+    handed_in: usize,
     // changed states: accepted, and refused by each number
     accepted: usize,
     by_number: [usize; 10],
@@ -95,7 +100,11 @@ fn sizes(r: &mut Random, of: &str) -> [usize; 6] {
     let packet = if one_in(r, 60) { pick(r, &[1, 4096]) } else { 1 + r.below(12) as usize };
     let target = if one_in(r, 60) { 65_536 } else { packet + r.below(40) as usize };
     let max = if one_in(r, 60) { 131_072 } else { target + r.below(60) as usize };
-    let bins = if one_in(r, 60) { 65_535 } else { pick(r, &[1, 2, 3, 5, 16, 64, 512]) };
+    let bins = match r.below(80) {
+        0 => 65_535,
+        1 => 1000 + r.below(64_536) as usize,
+        _ => pick(r, &[1, 2, 3, 5, 16, 64, 512]),
+    };
     [packet, target, max, bins, WIDTH, HEIGHT]
 }
 
@@ -106,19 +115,48 @@ fn estimate(r: &mut Random) -> f32 {
 // Areas that hold anything, and may be longer than they need to be.
 fn areas(r: &mut Random, z: Sizes) -> Ours {
     let junk = [f32::NAN, 0.0, -7.5, f32::INFINITY, 3e38][r.below(5) as usize];
-    Ours {
-        words: (0..WORDS + r.below(3) as usize).map(|_| r.next()).collect(),
-        fs: vec![junk; z.float_area() + r.below(4) as usize],
-        us: vec![r.next() as u32; z.word_area() + r.below(4) as usize],
+    let mut o = Ours {
+        words: (0..WORDS + r.below(6) as usize).map(|_| r.next()).collect(),
+        fs: vec![junk; z.float_area()],
+        us: vec![r.next() as u32; z.word_area()],
+    };
+    o.fs.extend((0..r.below(6)).map(|_| level(r)).collect::<Vec<_>>());
+    o.us.extend((0..r.below(6)).map(|_| r.next() as u32).collect::<Vec<_>>());
+    o
+}
+
+// A setup that is accepted. It writes the words of the state and both pictures.
+fn set_up(r: &mut Random, setup: &Setup) -> Ours {
+    let mut o = areas(r, Sizes(setup.sizes));
+    let before = o.clone();
+    let answered = o.setup(setup);
+    let parts = |o: &Ours| Parts { words: vec![0..WORDS], fs: vec![], us: vec![o.picture(0), o.picture(1)] };
+    if answered != (true, [1, 0, 0, 0]) || !o.kept_but(parts(&o), before) {
+        println!("DIFFERS: {setup:?} answers {answered:?}, or changed a place that is not its own");
+        std::process::exit(1)
+    }
+    o
+}
+
+// Estimates that no setup takes, in a state that can be held all the same.
+fn hand_in_estimates(r: &mut Random, o: &mut Ours, estimates: &mut [f32; 6], seen: &mut Seen) {
+    for (i, e) in estimates.iter_mut().enumerate() {
+        if one_in(r, 3) {
+            *e = not_finite(r);
+            o.screen_mut(i / 3)[12 + i % 3] = pattern(*e);
+            seen.handed_in += 1;
+        }
     }
 }
 
 impl Session {
-    fn new(r: &mut Random, number: usize, of: &str) -> Session {
-        let setup = Setup { sizes: sizes(r, of), estimates: std::array::from_fn(|_| estimate(r)) };
+    fn new(r: &mut Random, number: usize, of: &str, seen: &mut Seen) -> Session {
+        let mut setup = Setup { sizes: sizes(r, of), estimates: std::array::from_fn(|_| estimate(r)) };
         let [packet, target, max, bins, ..] = setup.sizes;
-        let mut ours = areas(r, Sizes(setup.sizes));
-        let (there, answer) = ours.setup(&setup);
+        let mut ours = set_up(r, &setup);
+        if one_in(r, 6) {
+            hand_in_estimates(r, &mut ours, &mut setup.estimates, seen);
+        }
         let near_the_wrap = one_in(r, 4);
         let s = Session {
             number,
@@ -134,8 +172,6 @@ impl Session {
             sequence: std::array::from_fn(|_| if near_the_wrap { u32::MAX - r.below(30) as u32 } else { r.below(1000) as u32 }),
             last: [None; 2],
         };
-        s.numbers("answer", &answer, &[1, 0, 0, 0], &"setup");
-        s.check(there, "the words were not there", &"setup");
         s.everything(&"setup");
         s
     }
@@ -270,7 +306,8 @@ impl Session {
         }
         let bytes = 2 * self.ours.sizes().0[0];
         let bytes = if one_in(r, 12) { r.below(bytes as u64 + 4) as usize } else { bytes };
-        d.extend((0..bytes).map(|_| (r.next() >> 32) as u8));
+        let edges = one_in(r, 4);
+        d.extend((0..bytes).map(|_| if edges { pick(r, &[0, 0xff, 0x80, 0x7f]) } else { (r.next() >> 32) as u8 }));
         if one_in(r, 60) {
             d.truncate(16 + r.below(10) as usize);
         }
@@ -300,10 +337,11 @@ impl Session {
             3 => d.truncate(r.below(16) as usize),
             4 => d.resize(65_535 + r.below(3) as usize, 0),
             _ => {
-                let stream = pick(r, &[2, 4]);
-                d = header(r, 1, stream, 0);
-                let total = (self.ours.sizes().0[3] + 1 + r.below(3) as usize).min(65_535);
-                let number = r.next() as u16;
+                let channel = r.below(2) as usize;
+                d = header(r, 1, 2 + 2 * channel as u8, 0);
+                let most = if one_in(r, 2) { 3 } else { 65_535 };
+                let total = (self.ours.sizes().0[3] + 1 + r.below(most) as usize).min(65_535);
+                let number = self.sender[channel].number;
                 d.extend(payload(r, Chunk { number, total, first: 0, n: 1 }, Values::Levels));
                 d.extend(&[1, 2, 3][..r.below(4) as usize]);
             }
@@ -401,7 +439,21 @@ impl Session {
         self.call += 1;
         let expected = self.original_call(c, &answer, &out, c, seen);
         self.numbers("answer", &answer, &expected, c);
+        let parts = before.parts(c);
+        self.check(self.ours.kept_but(parts, before), "a place that is not the call's", c);
+        self.check(self.ours.broken(self.ours.sizes()).is_none(), "no receiver could hold what it left", c);
         self.everything(c);
+    }
+
+    // Settings that no set takes, in a state that can be held all the same.
+    fn hand_in(&mut self, side: usize, s: Settings, seen: &mut Seen) {
+        let w = self.ours.screen_mut(side);
+        w[7] = s.adaptive as u64;
+        w[8..12].copy_from_slice(&[s.top, s.range, s.zoom, s.smoothing].map(pattern));
+        self.original.set(side, s);
+        self.settings[side] = s;
+        self.everything(&("handed in", s));
+        seen.handed_in += 1;
     }
 
     // the same call on the original, and the answer that it calls for
@@ -448,6 +500,8 @@ impl Session {
         let row = &self.plain.smooth[channel];
         self.floats("row", self.ours.part(channel, 0, row.len()), row, name);
         seen.rows += 1;
+        seen.adaptive += self.settings[channel].adaptive as usize;
+        seen.not_finite += (8..15).any(|i| !self.ours.shown(channel, i).is_finite()) as usize;
         seen.longest = seen.longest.max(row.len());
         [4, row.len() as u64, 0, 0]
     }
@@ -535,6 +589,9 @@ impl Session {
                 self.check(answer[0] != 0, "refused", &name);
                 self.check(o.words[CALLS] == before.words[CALLS] + 1, "the number of calls", &name);
                 self.check(o.verdict(&Call::Reset(0)).is_none_or(|n| n == 4), "no receiver could hold what it left", &name);
+                // words are written as a receiver's are, so that all of them may change
+                let parts = Parts { words: vec![0..WORDS], ..before.parts(&c) };
+                self.check(o.kept_but(parts, before.clone()), "a place that is not the call's", &name);
                 seen.accepted += 1;
             }
         }
@@ -572,19 +629,22 @@ fn any_setup(r: &mut Random, seen: &mut Seen) {
         2 => setup.estimates[r.below(6) as usize] = not_finite(r),
         _ => {}
     }
+    let Some(number) = setup_verdict(&setup, o.fs.len(), o.us.len()) else {
+        set_up(r, &setup);
+        seen.setups[0] += 1;
+        return;
+    };
     let before = o.clone();
-    let verdict = setup_verdict(&setup, o.fs.len(), o.us.len());
-    let (there, answer) = o.setup(&setup);
-    let expected = verdict.map_or([1, 0, 0, 0], |n| [0, n, 0, 0]);
-    if !there || answer != expected || verdict.is_some() && !o.same_as(&before) {
-        println!("DIFFERS: {setup:?} answers {answer:?}, expected {expected:?}, or changed something");
+    let answered = o.setup(&setup);
+    if answered != (true, [0, number, 0, 0]) || !o.same_as(&before) {
+        println!("DIFFERS: {setup:?} answers {answered:?}, expected {number}, or changed something");
         std::process::exit(1)
     }
-    seen.setups[verdict.unwrap_or(0) as usize] += 1;
+    seen.setups[number as usize] += 1;
 }
 
 fn session(r: &mut Random, number: usize, of: &str, seen: &mut Seen) {
-    let mut s = Session::new(r, number, of);
+    let mut s = Session::new(r, number, of, seen);
     let large = s.ours.fs.len() > 20_000 || s.ours.us.len() > 20_000;
     let calls = if large { 20 + r.below(60) } else { 10 + r.below(290) };
     let usual = values(r);
@@ -594,6 +654,11 @@ fn session(r: &mut Random, number: usize, of: &str, seen: &mut Seen) {
         let c = s.next_call(r, of);
         s.act(&c, seen);
         seen.calls += 1;
+        if let Call::Set(side, x) = c {
+            if s.ours.verdict(&c) == Some(5) && one_in(r, 3) {
+                s.hand_in(side, x, seen);
+            }
+        }
         if one_in(r, 4) {
             s.any_state(r, seen);
         }
@@ -615,6 +680,9 @@ fn main() {
         refused: 0,
         rows: 0,
         longest: 0,
+        adaptive: 0,
+        not_finite: 0,
+        handed_in: 0,
         accepted: 0,
         by_number: [0; 10],
         by_clause: [0; CLAUSES.len()],
@@ -627,6 +695,10 @@ fn main() {
     println!(
         "picture {WIDTH} x {HEIGHT}: {sessions} sessions, {} calls ({} refused), {} rows completed, the longest {} bins: all equal",
         seen.calls, seen.refused, seen.rows, seen.longest
+    );
+    println!(
+        "  {} of the rows with adaptive on, {} with a setting or an estimate that is not finite, handed in {} times",
+        seen.adaptive, seen.not_finite, seen.handed_in
     );
     let changed = seen.accepted + seen.by_number.iter().sum::<usize>();
     let least = (0..CLAUSES.len()).min_by_key(|&i| seen.by_clause[i]).unwrap();

@@ -46,6 +46,22 @@ pub struct Ours {
     pub us: Vec<u32>,
 }
 
+// Words of the state, and places of the f32 area and of the u32 area.
+#[derive(Default)]
+pub struct Parts {
+    pub words: Vec<Range<usize>>,
+    pub fs: Vec<Range<usize>>,
+    pub us: Vec<Range<usize>>,
+}
+
+fn jitter_words(channel: usize) -> Range<usize> {
+    18 + 29 * channel..32 + 29 * channel
+}
+
+fn screen_words(channel: usize) -> Range<usize> {
+    32 + 29 * channel..47 + 29 * channel
+}
+
 // The six sizes with what follows from them, for sizes that are allowed.
 #[derive(Clone, Copy)]
 pub struct Sizes(pub [usize; 6]);
@@ -145,11 +161,15 @@ impl Ours {
     }
 
     pub fn jitter(&self, channel: usize) -> &[u64] {
-        &self.words[18 + 29 * channel..][..14]
+        &self.words[jitter_words(channel)]
     }
 
     pub fn screen(&self, channel: usize) -> &[u64] {
-        &self.words[32 + 29 * channel..][..15]
+        &self.words[screen_words(channel)]
+    }
+
+    pub fn screen_mut(&mut self, channel: usize) -> &mut [u64] {
+        &mut self.words[screen_words(channel)]
     }
 
     // a float of a channel's screen
@@ -172,6 +192,68 @@ impl Ours {
 
     pub fn same_as(&self, o: &Ours) -> bool {
         self.words == o.words && self.us == o.us && self.fs.len() == o.fs.len() && self.fs.iter().zip(&o.fs).all(|(a, b)| a.to_bits() == b.to_bits())
+    }
+
+    // ---- what a call may change
+
+    pub fn parts(&self, c: &Call) -> Parts {
+        let mut p = match c {
+            Call::Datagram(d) => self.datagram_parts(d[3]),
+            Call::Play(side, _) => self.sound_parts(*side),
+            Call::Reset(side) => Parts { words: vec![jitter_words(*side)], ..Parts::default() },
+            Call::Set(side, _) => {
+                let shown = screen_words(*side).start;
+                Parts { words: vec![shown + 7..shown + 12], ..Parts::default() }
+            }
+            _ => Parts { words: vec![CLOCK..WORDS], ..Parts::default() },
+        };
+        p.words.push(CALLS..CALLS + 1);
+        p
+    }
+
+    fn datagram_parts(&self, stream: u8) -> Parts {
+        let mut p = match stream {
+            1 | 3 => self.sound_parts(stream as usize / 2),
+            2 | 4 => self.row_parts(stream as usize / 2 - 1),
+            _ => Parts::default(),
+        };
+        match stream {
+            1 => p.words.push(8..13),
+            2 => p.words.push(13..18),
+            _ => {}
+        }
+        p.words.push(INCOMING..INCOMING + 1);
+        p
+    }
+
+    // waiting samples and queue, and waiting sequences
+    fn sound_parts(&self, channel: usize) -> Parts {
+        let z = self.sizes();
+        let (f, u) = (channel * z.section(), channel * z.word_section());
+        Parts { words: vec![jitter_words(channel)], fs: vec![f..f + z.row()], us: vec![u..u + z.most_waiting()] }
+    }
+
+    // row, spectrum and smoothing, the work section, and the picture
+    fn row_parts(&self, channel: usize) -> Parts {
+        let z = self.sizes();
+        let [at, work] = [channel * z.section() + z.row(), 2 * z.section()];
+        let bins = z.0[3];
+        Parts { words: vec![screen_words(channel)], fs: vec![at..at + 3 * bins, work..work + bins], us: vec![self.picture(channel)] }
+    }
+
+    // Whether nothing but these parts is different from before.
+    pub fn kept_but(&self, parts: Parts, before: Ours) -> bool {
+        let mut expected = before;
+        for p in parts.words {
+            expected.words[p.clone()].copy_from_slice(&self.words[p]);
+        }
+        for p in parts.fs {
+            expected.fs[p.clone()].copy_from_slice(&self.fs[p]);
+        }
+        for p in parts.us {
+            expected.us[p.clone()].copy_from_slice(&self.us[p]);
+        }
+        self.same_as(&expected)
     }
 
     // ---- questions 1 to 4 and each call's own: the number of the first no

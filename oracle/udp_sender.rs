@@ -1,4 +1,4 @@
-// What the sessions of udp.rs send: rows cut into chunks, whole, doubled, overlapping, spoiled or lost, values of many
+// What the sessions of receiver.rs send: rows cut into chunks, whole, doubled, overlapping, spoiled or lost, values of many
 // kinds, and settings within their limits and beyond.
 use crate::original::Settings;
 use crate::random::Random;

@@ -7,6 +7,16 @@ mod original;
 use original::{Original, Settings, FIRST_SETTINGS};
 use ui::layout::{WATERFALL_IMAGE_HEIGHT as HEIGHT, WATERFALL_IMAGE_WIDTH as WIDTH};
 
+// Answers. A refusal is the number of its question.
+const ACCEPTED: u32 = 0x10;
+const NO_ROW: u32 = 0x20;
+const ROW: u32 = 0x10000;
+
+// to a set or a setup: question 5
+fn asked(floats: &[f32]) -> u32 {
+    if floats.iter().all(|x| x.is_finite()) { ACCEPTED } else { 5 }
+}
+
 fn bits(x: f32) -> u32 {
     if x.is_nan() { 0x7fc0_0000 } else { x.to_bits() }
 }
@@ -51,7 +61,7 @@ impl Session {
         let [t, f, r] = estimates;
         let e = [t, f, r, t, f, r];
         println!("\n= {name}");
-        line("Z", [bins as u32, WIDTH as u32, HEIGHT as u32].into_iter().chain(estimates.map(bits)));
+        line("Z", [asked(&estimates), bins as u32, WIDTH as u32, HEIGHT as u32].into_iter().chain(estimates.map(bits)));
         Session {
             bins,
             original: Original::new(1, 1, 1, e),
@@ -64,19 +74,18 @@ impl Session {
         change(&mut self.settings);
         let s = self.settings;
         self.original.set(0, s);
-        line("D", [s.adaptive as u32].into_iter().chain([s.top, s.range, s.zoom, s.smoothing].map(bits)));
+        let floats = [s.top, s.range, s.zoom, s.smoothing];
+        line("D", [asked(&floats), s.adaptive as u32].into_iter().chain(floats.map(bits)));
     }
 
-    // the answer to a payload: 1, or 2 and the bins of the row that it completed
     fn answer(&mut self, payload: &[u8]) -> u32 {
-        let mut d = vec![0x52, 0x53, 1, 2];
-        d.extend([0; 12]);
+        let mut d = header(2, 0);
         d.extend(payload);
         self.plain.datagram(&d);
         if !self.original.draws(0, &d) {
-            return 1;
+            return NO_ROW;
         }
-        2 + self.plain.smooth[0].len() as u32
+        ROW + self.plain.smooth[0].len() as u32
     }
 
     fn shown(&self) {
@@ -94,7 +103,7 @@ impl Session {
         let answer = self.answer(&payload(number, total, first, values));
         let head = [answer, number as u32, total as u32, first as u32];
         line("C", head.into_iter().chain(values.iter().map(|x| bits(*x))));
-        if answer > 1 {
+        if answer > ROW {
             floats("R", &self.plain.smooth[0]);
             self.shown();
         }
@@ -108,7 +117,7 @@ impl Session {
         let values: Vec<f32> = (first..first + n).map(|bin| ruled(rule, bin as usize)).collect();
         let answer = self.answer(&payload(number, total, first, &values));
         line("L", [answer, number as u32, total as u32, first as u32, n as u32, rule]);
-        if answer > 1 {
+        if answer > ROW {
             let spectrum = self.original.spectrum[0].lock().unwrap();
             line("T", [sum(&self.plain.smooth[0]), sum(&spectrum), sum(&self.original.smooth[0])]);
             self.display();
@@ -120,11 +129,18 @@ impl Session {
         line("B", [answer].into_iter().chain(payload.iter().map(|b| *b as u32)));
     }
 
-    // a total above bins: refused by the rules, and all stays as it was
+    // a total above bins: refused by question 8, and all stays as it was
     fn refused(&mut self, payload: &[u8]) {
-        line("B", [0].into_iter().chain(payload.iter().map(|b| *b as u32)));
+        line("B", [8].into_iter().chain(payload.iter().map(|b| *b as u32)));
         self.shown();
     }
+}
+
+fn header(stream: u8, sequence: u32) -> Vec<u8> {
+    let mut d = vec![0x52, 0x53, 1, stream];
+    d.extend(sequence.to_be_bytes());
+    d.extend([0; 8]);
+    d
 }
 
 fn payload(number: u16, total: u16, first: u16, values: &[f32]) -> Vec<u8> {
@@ -228,6 +244,12 @@ fn estimates() {
     s.set(|d| d.adaptive = true);
     s.row(4, &[-3e38, 3e38, 1e-40, -1e-40, 7.5]);
     s.row(5, &[3e38, 3e38, 3e38, 3e38, 3e38]);
+
+    let mut s = Session::new("estimates NaN, infinite and negative infinite", 3, [f32::NAN, f32::INFINITY, f32::NEG_INFINITY]);
+    s.row(1, &[-40.0, -50.0, -60.0]);
+    s.set(|d| d.adaptive = true);
+    s.row(2, &[-45.0, -55.0, -65.0]);
+    s.row(3, &[-50.0, -60.0, -70.0]);
 }
 
 fn smoothing() {
@@ -285,17 +307,28 @@ fn levels() {
     s.ruled(2, 1, 256, 0, 256);
 }
 
+// the counts of streams 1 and 2: packets, dropped ones and late ones
+fn counts_of(o: &Original) -> [[u64; 3]; 2] {
+    let s = o.stats.lock().unwrap();
+    [
+        [s.audio_packets, s.dropped_audio_packets, s.late_audio_packets],
+        [s.waterfall_packets, s.dropped_waterfall_packets, s.late_waterfall_packets],
+    ]
+}
+
+// headers alone: streams 1 and 2 count them alike, and 3 and 4 leave the counts
 fn sequences(name: &str, numbers: &[u32]) {
-    println!("\n= {name}");
-    let mut o = Original::new(1, 1, 1, [0.0; 6]);
+    let mut o = Session::new(name, 1, QUIET).original;
     for sequence in numbers {
-        let mut d = vec![0x52, 0x53, 1, 2];
-        d.extend(sequence.to_be_bytes());
-        d.extend([0; 8]);
-        o.datagram(&d);
-        let s = o.stats.lock().unwrap();
-        let dropped = s.dropped_waterfall_packets;
-        line("Q", [*sequence, s.waterfall_packets as u32, (dropped >> 32) as u32, dropped as u32, s.late_waterfall_packets as u32]);
+        o.datagram(&header(1, *sequence));
+        o.datagram(&header(2, *sequence));
+        let [audio, waterfall] = counts_of(&o);
+        assert_eq!(audio, waterfall);
+        o.datagram(&header(3, *sequence));
+        o.datagram(&header(4, *sequence));
+        assert_eq!(counts_of(&o), [audio, waterfall]);
+        let [packets, dropped, late] = audio;
+        line("Q", [*sequence, packets as u32, (dropped >> 32) as u32, dropped as u32, late as u32]);
     }
 }
 

@@ -21,8 +21,16 @@ fn low(n: u64) -> u32
     (n % 4294967296) as u32
 }
 
+// The first difference of two.
+pub(crate) fn first(a: Verdict, b: Verdict) -> Verdict {
+    match a {
+        Verdict::Same => b,
+        Verdict::Differs(d) => Verdict::Differs(d),
+    }
+}
+
 // As many as the words.
-fn length(found: usize, words: &[u32]) -> Verdict {
+pub(crate) fn length(found: usize, words: &[u32]) -> Verdict {
     let expected = words.len();
     if found == expected {
         return Verdict::Same;
@@ -34,9 +42,8 @@ fn length(found: usize, words: &[u32]) -> Verdict {
     })
 }
 
-// An answer, which is the first word.
-pub(crate) fn answer(found: u32, words: &[u32]) -> Verdict {
-    let expected = word(words, 0);
+// An answer. A line has the expected one as its first word.
+pub(crate) fn answer(found: u32, expected: u32) -> Verdict {
     if found == expected {
         return Verdict::Same;
     }
@@ -47,11 +54,11 @@ pub(crate) fn answer(found: u32, words: &[u32]) -> Verdict {
     })
 }
 
-// Numbers, of which there are to be so many. Where there are fewer, they end in zeros.
-pub(crate) fn numbers(found: &[u32], n: usize, words: &[u32]) -> Verdict {
+// So many numbers from a place on. Where there are fewer, they end in zeros.
+pub(crate) fn numbers(found: &[u32], from: usize, n: usize, words: &[u32]) -> Verdict {
     let mut i = 0;
     while i < words.len() {
-        let number = word(found, i);
+        let number = word(found, std::num::wrapping_add_usize(from, i));
         if number != words[i] {
             return Verdict::Differs(Difference {
                 word: i,
@@ -95,7 +102,7 @@ pub(crate) fn estimates(d: Display, words: &[u32]) -> Verdict {
         floats::to_bits(d.floor_estimate),
         floats::to_bits(d.range_estimate),
     ];
-    numbers(&found, 3, words)
+    numbers(&found, 0, 3, words)
 }
 
 // The sum of so many values from a place on. Each changes all of it, and so does its place.
@@ -138,5 +145,5 @@ pub(crate) fn counts(c: StreamCounts, words: &[u32]) -> Verdict {
         low(c.dropped),
         low(c.late),
     ];
-    numbers(&found, 5, words)
+    numbers(&found, 0, 5, words)
 }

@@ -1,6 +1,9 @@
-// Runs the sessions on standard input, each with what the original showed in it, and prints a line for each: ok, or its
-// first difference. The input says what its lines mean; oracle/udp_sessions.sh prints it anew.
+// Runs the sessions on standard input on a receiver, first all on its channel A and then all on B, each with what the
+// original showed in it, and prints a line for each: ok, or its first difference. The input says what its lines mean;
+// oracle/udp_sessions.sh prints it anew.
 mod compare;
+mod datagram;
+mod look;
 mod payload;
 mod report;
 mod session;
@@ -9,19 +12,11 @@ mod words;
 ghost use mathlib.Core.Path.{_≡_};
 ghost use Prim.Native.Nat.{_+_, _≤_, _<_};
 ghost use lib.ListN.{length};
-ghost use Rattle.io.specs.Counts.{Counts};
-use crate::compare::Verdict;
 use crate::report::Progress;
 use crate::session::Session;
 use crate::words::word;
+use calls::Side;
 use libc::STDIN_FILENO;
-use udp::packets::Screen;
-
-// What a line leaves of the session, and what it found.
-struct Step {
-    session: Session,
-    verdict: Verdict,
-}
 
 // What a line leaves.
 struct Turn {
@@ -29,107 +24,50 @@ struct Turn {
     progress: Progress,
 }
 
-// Builds a line's payload.
-fn build(letter: u8, payload: &mut [u8], words: &[u32]) -> usize
-    ensures { λ r. ⌜ Counts r (now (payload .exit)) ⌝ }
-{
-    match letter {
-        b'C' => payload::chunk(payload, words),
-        b'L' => payload::ruled_chunk(payload, words),
-        _ => payload::bytes(payload, words),
-    }
+// A datagram of the channel's rows.
+fn send_rows(letter: u8, s: Session, fs: &mut [f32], us: &mut [u32], words: &[u32]) -> Session {
+    let mut bytes = io::large_buffer();
+    let side = s.side;
+    let n = datagram::put_rows(letter, side, &mut bytes, words);
+    session::datagram(s, fs, us, &bytes[..n], word(words, 0))
 }
 
-// The sums of the row, the spectrum and the smoothing buffer.
-fn sums(s: Screen, rows: &[f32], bins: usize, row: usize, words: &[u32]) -> Verdict
-    requires { ⌜ bins < 65536 ⌝ }
-{
-    let found = [
-        compare::sum(rows, 0, row),
-        compare::sum(rows, bins, s.spectrum_len),
-        compare::sum(rows, 2 * bins, s.smooth_len),
-    ];
-    compare::numbers(&found, 3, words)
+// A header alone, which is counted where its stream is, and completes no row.
+fn send_header(s: Session, fs: &mut [f32], us: &mut [u32], stream: u8, sequence: u32) -> Session {
+    let mut bytes = [0u8; 16];
+    datagram::put_header(&mut bytes, stream, sequence);
+    session::datagram(s, fs, us, &bytes, session::NO_ROW)
 }
 
-// What shows against a line's words.
-fn look(letter: u8, s: Session, rows: &[f32], picture: &[u32], words: &[u32]) -> Verdict {
-    let z = s.z;
-    let bins = z.bins % 65536;
-    let screen = s.screen;
-    let open = screen.row;
-    let row = session::row_len(open);
-    match letter {
-        b'R' => compare::values(rows, 0, row, words),
-        b'S' => compare::values(rows, bins, screen.spectrum_len, words),
-        b'M' => compare::values(rows, 2 * bins, screen.smooth_len, words),
-        b'E' => compare::estimates(screen.display, words),
-        b'P' => compare::numbers(picture, s.pixels, words),
-        b'K' => compare::colours(words),
-        _ => sums(screen, rows, bins, row, words),
-    }
-}
-
-// A fresh channel. Its part of the memory holds whatever was there.
-fn begin(picture: &mut [u32], words: &[u32]) -> Step {
-    areas::fill_u32(picture, 0, picture.len(), 0);
-    Step {
-        session: session::fresh(words),
-        verdict: Verdict::Same,
-    }
-}
-
-// A payload, and the answer that is expected in the first word.
-fn send(s: Session, rows: &mut [f32], picture: &mut [u32], payload: &[u8], words: &[u32]) -> Step {
-    let acted = session::waterfall(s, rows, picture, payload);
-    let session = acted.session;
-    Step {
-        session,
-        verdict: compare::answer(acted.answer, words),
-    }
-}
-
-// A line that sends its payload.
-fn build_and_send(
-    letter: u8,
+// Headers of two streams, and the counts after them.
+fn send_headers(
     s: Session,
-    rows: &mut [f32],
-    picture: &mut [u32],
+    fs: &mut [f32],
+    us: &mut [u32],
+    audio: u8,
+    rows: u8,
     words: &[u32],
-) -> Step {
-    let mut payload = io::large_buffer();
-    let n = build(letter, &mut payload, words);
-    send(s, rows, picture, &payload[..n], words)
+) -> Session {
+    let sequence = word(words, 0);
+    let heard = send_header(s, fs, us, audio, sequence);
+    let seen = send_header(heard, fs, us, rows, sequence);
+    session::looked(seen, look::counts(seen, words))
 }
 
-// A line that sets, counts or looks.
-fn note(letter: u8, s: Session, rows: &[f32], picture: &[u32], words: &[u32]) -> Step {
-    if letter == b'D' {
-        return Step {
-            session: session::set(s, words),
-            verdict: Verdict::Same,
-        };
-    }
-    if letter == b'Q' {
-        let after = session::counted(s, word(words, 0));
-        let counts = after.counts;
-        return Step {
-            session: after,
-            verdict: compare::counts(counts, words),
-        };
-    }
-    Step {
-        session: s,
-        verdict: look(letter, s, rows, picture, words),
-    }
+// A sequence on streams 1 and 2, which count it, and then on 3 and 4, which leave the counts.
+fn count(s: Session, fs: &mut [f32], us: &mut [u32], words: &[u32]) -> Session {
+    let counted = send_headers(s, fs, us, 1, 2, words);
+    send_headers(counted, fs, us, 3, 4, words)
 }
 
 // One line with words.
-fn act(letter: u8, s: Session, rows: &mut [f32], picture: &mut [u32], words: &[u32]) -> Step {
+fn act(letter: u8, s: Session, fs: &mut [f32], us: &mut [u32], words: &[u32]) -> Session {
     match letter {
-        b'Z' => begin(picture, words),
-        b'C' | b'L' | b'B' => build_and_send(letter, s, rows, picture, words),
-        _ => note(letter, s, rows, picture, words),
+        b'Z' => session::begin(s, fs, us, words),
+        b'D' => session::set(s, fs, us, words),
+        b'C' | b'L' | b'B' => send_rows(letter, s, fs, us, words),
+        b'Q' => count(s, fs, us, words),
+        _ => session::looked(s, look::look(letter, s, fs, us, words)),
     }
 }
 
@@ -141,28 +79,35 @@ fn letter_of(line: &[u8]) -> u8 {
     b'#'
 }
 
+// A line with words.
+fn take_words(letter: u8, s: Session, line: &[u8], fs: &mut [f32], us: &mut [u32]) -> Session {
+    let mut words = [0u32; 512];
+    let n = words::words_of(line, &mut words);
+    act(letter, s, fs, us, &words[..n])
+}
+
 // One line: a name, a comment, or a letter and its words.
-fn take_line(t: Turn, line: &[u8], rows: &mut [f32], picture: &mut [u32]) -> Turn {
+fn take_line(t: Turn, line: &[u8], fs: &mut [f32], us: &mut [u32]) -> Turn {
     let session = t.session;
     let progress = report::next_line(t.progress);
     let letter = letter_of(line);
-    if letter == b'#' {
-        return Turn { session, progress };
-    }
-    if letter == b'=' {
-        return Turn {
-            session: session::fresh(&[]),
-            progress: report::name(progress, line),
-        };
-    }
-    let mut words = [0u32; 512];
-    let n = words::words_of(line, &mut words);
-    let step = act(letter, session, rows, picture, &words[..n]);
-    let after = step.session;
-    let verdict = step.verdict;
-    Turn {
-        session: after,
-        progress: report::note(progress, verdict),
+    match letter {
+        b'#' => Turn { session, progress },
+        b'=' => {
+            let side = session.side;
+            Turn {
+                session: session::start(side),
+                progress: report::name(progress, line),
+            }
+        }
+        _ => {
+            let after = take_words(letter, session, line, fs, us);
+            let found = after.found;
+            Turn {
+                session: after,
+                progress: report::note(progress, found),
+            }
+        }
     }
 }
 
@@ -189,16 +134,16 @@ fn behind(text: &[u8], end: usize) -> usize
     end + 1
 }
 
-// All lines.
-fn run(text: &[u8], rows: &mut [f32], picture: &mut [u32]) -> Progress {
+// All lines, on one channel.
+fn run(text: &[u8], side: Side, fs: &mut [f32], us: &mut [u32]) -> Progress {
     let mut t = Turn {
-        session: session::fresh(&[]),
-        progress: report::start(),
+        session: session::start(side),
+        progress: report::start(side),
     };
     let mut at = 0;
     while at < text.len() {
         let end = line_end(text, at);
-        t = take_line(t, &text[at..end], rows, picture);
+        t = take_line(t, &text[at..end], fs, us);
         if text.len() <= end {
             return t.progress;
         }
@@ -207,19 +152,18 @@ fn run(text: &[u8], rows: &mut [f32], picture: &mut [u32]) -> Progress {
     t.progress
 }
 
-// Row, spectrum, smoothing and the work section at 65,535 bins.
-fn room() -> [f32; 262140]
-    ensures { λ r. ⌜ 262140 ≡ length r ⌝ }
-{
-    let nan: f32 = 0.0 / 0.0;
-    [nan; 262140]
+// All lines on both channels, one after the other.
+fn run_both(text: &[u8], fs: &mut [f32], us: &mut [u32]) {
+    report::sum_up(run(text, Side::A, fs, us));
+    report::sum_up(run(text, Side::B, fs, us));
 }
 
+// Both areas are those of 65,535 bins and a picture of 256 places, and hold anything.
 fn main() {
     let mut text = io::large_buffer();
     let n = io::read_full(STDIN_FILENO, &mut text);
-    let mut rows = room();
-    let mut picture = [0u32; 256];
-    let p = run(&text[..n], &mut rows, &mut picture);
-    report::sum_up(report::close(p));
+    let nan: f32 = 0.0 / 0.0;
+    let mut fs = [nan; 458751];
+    let mut us = [7u32; 514];
+    run_both(&text[..n], &mut fs, &mut us);
 }

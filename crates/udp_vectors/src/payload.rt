@@ -9,7 +9,8 @@ fn put(p: &mut [u8], at: usize, b: u32) {
     }
 }
 
-fn put_u16(p: &mut [u8], at: usize, x: u32)
+// Big-endian, as the numbers of a header are.
+pub(crate) fn put_u16(p: &mut [u8], at: usize, x: u32)
     requires { ⌜ at < 65536 ⌝ }
 {
     put(p, at, x / 256);

@@ -1,6 +1,7 @@
 // A line of output for each session, and how many there were.
 use crate::compare::Difference;
 use crate::compare::Verdict;
+use calls::Side;
 use libc::STDOUT_FILENO;
 use std::num::wrapping_add_u64;
 
@@ -18,7 +19,15 @@ fn text(s: &[u8]) {
     io::write_all(STDOUT_FILENO, s);
 }
 
-pub(crate) fn start() -> Progress {
+fn channel_name(side: Side) {
+    match side {
+        Side::A => text(b"channel A\n"),
+        Side::B => text(b"channel B\n"),
+    }
+}
+
+pub(crate) fn start(side: Side) -> Progress {
+    channel_name(side);
     Progress {
         line: 0,
         sessions: 0,
@@ -37,7 +46,7 @@ pub(crate) fn next_line(p: Progress) -> Progress {
 }
 
 // The rest of a session's line.
-pub(crate) fn close(p: Progress) -> Progress {
+fn close(p: Progress) -> Progress {
     if p.sessions == 0 {
         return p;
     }
@@ -94,6 +103,7 @@ pub(crate) fn note(p: Progress, v: Verdict) -> Progress {
 }
 
 pub(crate) fn sum_up(p: Progress) {
+    close(p);
     if p.wrong == 0 {
         text(b"all ");
         io::print_decimal(STDOUT_FILENO, p.sessions);

@@ -1,171 +1,203 @@
-// One channel and one stream's counts, in the state that a session has come to. The channel's values stand in lent
-// slices: row, spectrum and smoothing in `rows`, with the work section behind them, and the picture.
-use crate::words::float;
+// A receiver in the state that a session has come to, and the channel that the session is on. Both areas are lent to
+// each call.
+use crate::compare;
+use crate::compare::Verdict;
 use crate::words::word;
+use audio_metrics::AudioMetrics;
+use calls::Estimates;
+use calls::Settings;
+use calls::Side;
 use calls::Sizes;
-use udp::Display;
+use channel::Channel;
+use receiver::SetUp;
+use receiver::setting_up::setup;
+use receiver_state::Answer;
+use receiver_state::Receiver;
+use receiver_state::sides::channel_of;
+use receiver_state::sides::with_channel;
 use udp::StreamCounts;
-use udp::packets::Screen;
-use udp::reassembler::CompletedRow;
-use udp::reassembler::WaterfallReassembler;
-use udp_checked::Counted;
-use udp_checked::Waterfall;
+
+// Answers in a word. A refusal is the number of its question.
+const ACCEPTED: u32 = 16;
+
+pub const NO_ROW: u32 = 32;
+
+const ROW: u32 = 65536;
+
+// No session plays, and no line expects this.
+const PLAYED: u32 = 0;
 
 pub struct Session {
-    pub z: Sizes,
-    // of the picture
-    pub pixels: usize,
-    pub screen: Screen,
-    pub counts: StreamCounts,
+    pub side: Side,
+    pub receiver: Receiver,
+    // The first difference since the session began.
+    pub found: Verdict,
 }
 
-// What a payload leaves, and its answer: 0 where it was refused, 1 where it completed no row, else 2 and the row's bins.
-pub struct Acted {
-    pub session: Session,
-    pub answer: u32,
-}
-
-// The places of a picture.
-fn pixels_of(z: Sizes) -> usize {
-    if sizes::allowed(z) {
-        return z.width * z.height;
-    }
-    0
-}
-
-// The sizes are bins, width and height, then come the estimates of top, floor and range.
-pub(crate) fn fresh(words: &[u32]) -> Session {
-    let z = Sizes {
+// The sound has the smallest sizes.
+fn sizes_of(words: &[u32]) -> Sizes {
+    Sizes {
         packet: 1,
         target: 1,
         max: 1,
-        bins: word(words, 0) as usize,
-        width: word(words, 1) as usize,
-        height: word(words, 2) as usize,
-    };
+        bins: word(words, 1) as usize,
+        width: word(words, 2) as usize,
+        height: word(words, 3) as usize,
+    }
+}
+
+fn estimates_of(words: &[u32]) -> Estimates {
+    Estimates {
+        top: word(words, 4),
+        floor: word(words, 5),
+        range: word(words, 6),
+    }
+}
+
+fn settings_of(words: &[u32]) -> Settings {
+    Settings {
+        adaptive: word(words, 1) != 0,
+        top: word(words, 2),
+        range: word(words, 3),
+        zoom: word(words, 4),
+        smoothing: word(words, 5),
+    }
+}
+
+// Before a setup: no bins, so that question 1 refuses every call.
+fn no_receiver() -> Receiver {
+    let sizes = sizes_of(&[]);
+    let counts = StreamCounts::new();
+    let channel = Channel::new(estimates_of(&[]));
+    let clock = AudioMetrics::new();
+    Receiver {
+        sizes,
+        calls: 0,
+        incoming: 0,
+        audio: counts,
+        waterfall: counts,
+        a: channel,
+        b: channel,
+        clock,
+    }
+}
+
+pub(crate) fn start(side: Side) -> Session {
     Session {
-        z,
-        pixels: pixels_of(z),
-        screen: Screen::new(float(words, 3), float(words, 4), float(words, 5)),
-        counts: StreamCounts::new(),
+        side,
+        receiver: no_receiver(),
+        found: Verdict::Same,
     }
 }
 
-fn with_screen(s: Session, screen: Screen) -> Session {
-    let z = s.z;
-    let counts = s.counts;
+// What a look found.
+pub(crate) fn looked(s: Session, v: Verdict) -> Session {
+    let side = s.side;
+    let receiver = s.receiver;
+    let found = s.found;
     Session {
-        z,
-        pixels: s.pixels,
-        screen,
-        counts,
+        side,
+        receiver,
+        found: compare::first(found, v),
     }
 }
 
-// Adaptive, top, range, zoom and smoothing.
-pub(crate) fn set(s: Session, words: &[u32]) -> Session {
-    let screen = s.screen;
-    let row = screen.row;
-    let before = screen.display;
-    with_screen(
-        s,
-        Screen {
-            row,
-            spectrum_len: screen.spectrum_len,
-            smooth_len: screen.smooth_len,
-            display: Display {
-                adaptive: word(words, 0) != 0,
-                top: float(words, 1),
-                range: float(words, 2),
-                zoom: float(words, 3),
-                smoothing: float(words, 4),
-                top_estimate: before.top_estimate,
-                floor_estimate: before.floor_estimate,
-                range_estimate: before.range_estimate,
-            },
-        },
-    )
-}
-
-fn completed_word(completed: CompletedRow) -> u32 {
-    match completed {
-        CompletedRow::NoRow => 1,
-        CompletedRow::Bins(n) => ((n % 65536) as u32) + 2,
+// What a call left, and its answer against the one that is expected.
+fn called(s: Session, receiver: Receiver, answer: u32, expected: u32) -> Session {
+    let side = s.side;
+    let found = s.found;
+    Session {
+        side,
+        receiver,
+        found: compare::first(found, compare::answer(answer, expected)),
     }
 }
 
-fn after(s: Session, answer: Waterfall) -> Acted {
+fn answer_word(answer: Answer) -> u32 {
     match answer {
-        Waterfall::Refused => Acted {
-            session: s,
-            answer: 0,
-        },
-        Waterfall::Done(h) => {
-            let screen = h.screen;
-            let completed = h.completed;
-            Acted {
-                session: with_screen(s, screen),
-                answer: completed_word(completed),
-            }
-        }
+        Answer::Refused(n) => n,
+        Answer::Accepted => ACCEPTED,
+        Answer::NoRow => NO_ROW,
+        Answer::Row(n) => ROW + ((n % 65536) as u32),
+        Answer::Played {
+            taken: _,
+            dropped: _,
+            short: _,
+        } => PLAYED,
     }
 }
 
-// A waterfall payload, on exactly the channel's memory.
-pub(crate) fn waterfall(
+// A setup with these estimates on one channel, and zeros on the other.
+fn set_up(side: Side, z: Sizes, e: Estimates, fs: &[f32], us: &mut [u32]) -> SetUp {
+    let zeros = estimates_of(&[]);
+    let mut a = e;
+    let mut b = zeros;
+    if let Side::B = side {
+        a = zeros;
+        b = e;
+    }
+    setup(z, a, b, fs, us)
+}
+
+// Question 5 refuses estimates that are not finite. A state that holds them can still be handed in, and is made of a
+// setup with zeros: nothing but the estimates is changed.
+fn with_estimates(side: Side, z: Sizes, e: Estimates, fs: &[f32], us: &mut [u32]) -> Receiver {
+    let zeros = estimates_of(&[]);
+    match set_up(side, z, zeros, fs, us) {
+        SetUp::Refused(_) => no_receiver(),
+        SetUp::Ready(r) => with_channel(r, side, Channel::new(e)),
+    }
+}
+
+// A setup.
+pub(crate) fn begin(s: Session, fs: &[f32], us: &mut [u32], words: &[u32]) -> Session {
+    let side = s.side;
+    let z = sizes_of(words);
+    let e = estimates_of(words);
+    match set_up(side, z, e, fs, us) {
+        SetUp::Refused(n) => called(s, with_estimates(side, z, e, fs, us), n, word(words, 0)),
+        SetUp::Ready(r) => called(s, r, ACCEPTED, word(words, 0)),
+    }
+}
+
+// Question 5 refuses settings that are not finite. A state that holds them can still be handed in, and is made of the
+// former one: nothing but the settings is changed.
+fn with_settings(r: Receiver, side: Side, settings: Settings) -> Receiver {
+    let channel = channel_of(r, side);
+    with_channel(r, side, channel.set(settings))
+}
+
+// New settings.
+pub(crate) fn set(s: Session, fs: &[f32], us: &[u32], words: &[u32]) -> Session {
+    let side = s.side;
+    let settings = settings_of(words);
+    let before = s.receiver;
+    let answered = receiver::settings::set(before, fs, us, side, settings);
+    let receiver = answered.receiver;
+    let answer = answered.answer;
+    let told = answer_word(answer);
+    if told == 5 {
+        return called(
+            s,
+            with_settings(receiver, side, settings),
+            told,
+            word(words, 0),
+        );
+    }
+    called(s, receiver, told, word(words, 0))
+}
+
+// A datagram.
+pub(crate) fn datagram(
     s: Session,
-    rows: &mut [f32],
-    picture: &mut [u32],
-    payload: &[u8],
-) -> Acted {
-    let pixels = s.pixels;
-    if picture.len() < pixels {
-        return Acted {
-            session: s,
-            answer: 0,
-        };
-    }
-    let z = s.z;
-    let work = z.bins % 65536 * 3;
-    let end = work + z.bins % 65536;
-    if rows.len() < end {
-        return Acted {
-            session: s,
-            answer: 0,
-        };
-    }
-    let screen = s.screen;
-    let answer = udp_checked::handle_waterfall_packet(
-        screen,
-        z,
-        &mut rows[..end],
-        work,
-        &mut picture[..pixels],
-        payload,
-    );
-    after(s, answer)
-}
-
-// A datagram with a sequence.
-pub(crate) fn counted(s: Session, sequence: u32) -> Session {
-    let before = s.counts;
-    let Counted::Done(counts) = udp_checked::update_sequence_stats(before, sequence) else {
-        return s;
-    };
-    let z = s.z;
-    let screen = s.screen;
-    Session {
-        z,
-        pixels: s.pixels,
-        screen,
-        counts,
-    }
-}
-
-// The bins of the row that is open, or was completed last.
-pub(crate) fn row_len(row: WaterfallReassembler) -> usize {
-    match row {
-        WaterfallReassembler::NoRow => 0,
-        WaterfallReassembler::Open(r) => r.total_bins,
-    }
+    fs: &mut [f32],
+    us: &mut [u32],
+    bytes: &[u8],
+    expected: u32,
+) -> Session {
+    let before = s.receiver;
+    let answered = receiver::datagrams::handle_media_packet(before, fs, us, bytes);
+    let receiver = answered.receiver;
+    let answer = answered.answer;
+    called(s, receiver, answer_word(answer), expected)
 }

@@ -67,8 +67,3 @@ pub(crate) fn word(words: &[u32], i: usize) -> u32 {
     }
     0
 }
-
-// A float by its bits.
-pub(crate) fn float(words: &[u32], i: usize) -> f32 {
-    floats::from_bits(word(words, i))
-}

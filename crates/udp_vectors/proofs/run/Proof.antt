@@ -7,19 +7,16 @@ use Rattle.udp_vectors.proofs.run.Statement.{statement}
 use Rattle.udp_vectors.proofs.run.Tie as tie
 
 abbrev Inv-loop : tie.InvT-loop
-Inv-loop text rows₀ picture₀ t₀ at₀ rows picture t at = (length rows ≡ length rows₀) × (length picture ≡ length picture₀)
+Inv-loop text fs₀ us₀ t₀ at₀ fs us t at = (length fs ≡ length fs₀) × (length us ≡ length us₀)
 
 abbrev μ-loop : tie.MeasureT-loop
-μ-loop text rows₀ picture₀ t₀ at₀ rows picture t at = length text - at
-
-slice-aggregate-fresh : tie.Need-slice-aggregate-fresh Inv-loop μ-loop
-slice-aggregate-fresh c = search needs
-
-fresh-requires : tie.Need-fresh-requires Inv-loop μ-loop
-fresh-requires c κs = search needs
+μ-loop text fs₀ us₀ t₀ at₀ fs us t at = length text - at
 
 start-requires : tie.Need-start-requires Inv-loop μ-loop
 start-requires c κs = search needs
+
+start-requires-2 : tie.Need-start-requires-2 Inv-loop μ-loop
+start-requires-2 c κs = search needs
 
 loop-holds : tie.Need-loop-holds Inv-loop μ-loop
 loop-holds c = search needs
@@ -72,9 +69,8 @@ run-spec =
     (tie.spec
     Inv-loop
     μ-loop
-    slice-aggregate-fresh
-    fresh-requires
     start-requires
+    start-requires-2
     loop-holds
     line-end-requires
     sub-take-line

@@ -6,13 +6,16 @@ use Rattle.udp_vectors.proofs.compare.numbers.Statement.{statement}
 use Rattle.udp_vectors.proofs.compare.numbers.Tie as tie
 
 abbrev Inv-loop : tie.InvT-loop
-Inv-loop found n words i₀ i = i ≤ length words
+Inv-loop found from n words i₀ i = i ≤ length words
 
 abbrev μ-loop : tie.MeasureT-loop
-μ-loop found n words i₀ i = length words - i
+μ-loop found from n words i₀ i = length words - i
 
 loop-holds : tie.Need-loop-holds Inv-loop μ-loop
 loop-holds c = search needs
+
+wrapping-add-usize-requires : tie.Need-wrapping-add-usize-requires Inv-loop μ-loop
+wrapping-add-usize-requires c κs = search needs
 
 word-requires : tie.Need-word-requires Inv-loop μ-loop
 word-requires c κs = search needs
@@ -23,11 +26,11 @@ mul-if1 c = search needs
 shared-slice-read-if1 : tie.Need-shared-slice-read-if1 Inv-loop μ-loop
 shared-slice-read-if1 c = search needs
 
-mul-t10 : tie.Need-mul-t10 Inv-loop μ-loop
-mul-t10 c = search needs
+mul-t11 : tie.Need-mul-t11 Inv-loop μ-loop
+mul-t11 c = search needs
 
-shared-slice-read-t12 : tie.Need-shared-slice-read-t12 Inv-loop μ-loop
-shared-slice-read-t12 c = search needs
+shared-slice-read-t13 : tie.Need-shared-slice-read-t13 Inv-loop μ-loop
+shared-slice-read-t13 c = search needs
 
 returns : tie.Need-returns Inv-loop μ-loop
 returns c = search needs
@@ -54,11 +57,12 @@ numbers-spec =
     Inv-loop
     μ-loop
     loop-holds
+    wrapping-add-usize-requires
     word-requires
     mul-if1
     shared-slice-read-if1
-    mul-t10
-    shared-slice-read-t12
+    mul-t11
+    shared-slice-read-t13
     returns
     add-i
     loop-less

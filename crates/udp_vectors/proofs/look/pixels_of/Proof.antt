@@ -1,10 +1,10 @@
--- `udp_vectors::session::pixels_of` is safe: allowed sizes have a picture of at most 16,777,216 places. Assumes nothing.
+-- `udp_vectors::look::pixels_of` is safe: allowed sizes have a picture of at most 16,777,216 places. Assumes nothing.
 use native.Mathlib.Omega.{arith}
 use mathlib.Core.Path.{sym, _∙_}
 use Rattle.sizes.proofs.Bounds.{picture-bound}
 use borrow.Author.Needs.{needs}
-use Rattle.udp_vectors.proofs.session.pixels_of.Statement.{statement}
-use Rattle.udp_vectors.proofs.session.pixels_of.Tie as tie
+use Rattle.udp_vectors.proofs.look.pixels_of.Statement.{statement}
+use Rattle.udp_vectors.proofs.look.pixels_of.Tie as tie
 
 allowed-requires : tie.Need-allowed-requires
 allowed-requires c κs = search needs

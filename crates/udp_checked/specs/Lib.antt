@@ -1,4 +1,0 @@
-pub mod Asked
-pub mod Answered
-pub mod Words
-pub mod Exported
