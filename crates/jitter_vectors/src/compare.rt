@@ -1,13 +1,16 @@
-// What was found after a call, against what a session's text expects.
+// What was found after a call, against what a session's text expects, and against what was there before.
 use crate::text::decimal;
 use crate::text::pattern;
+use calls::Side;
 use jitter_buffer::JitterBuffer;
 use jitter_buffer::NextSequence;
-use jitter_checked::Amount;
+use receiver_state::Receiver;
+use receiver_state::readings::Buffered;
+use receiver_state::readings::buffered_samples;
 use std::num::wrapping_add_usize;
 
-// What is not as expected: its number in the list of names (see tally), of a sample its place, and both
-// values.
+// What is not as expected: its number in the list of names (see tally), its place where it is one of many, and
+// both values.
 pub struct Difference {
     pub what: usize,
     pub place: usize,
@@ -32,16 +35,32 @@ fn next_or_0(next: NextSequence) -> u64 {
     }
 }
 
-// A refused question shows as a number that no session expects.
-fn amount_word(a: Amount) -> u64 {
+// A state that has no amount shows as a number that no session expects.
+fn amount_word(a: Buffered) -> u64 {
     match a {
-        Amount::Refused => 18446744073709551615,
-        Amount::Samples(n) => n as u64,
+        Buffered::Samples(n) => n as u64,
+        Buffered::NotAllowed => 18446744073709551615,
+        Buffered::TooLong => 18446744073709551614,
     }
 }
 
-// The thirteen numbers of a buffer, in the order of a line.
-pub fn numbers(j: JitterBuffer, amount: Amount) -> [u64; 13] {
+pub fn jitter_of(r: Receiver, side: Side) -> JitterBuffer {
+    match side {
+        Side::A => {
+            let a = r.a;
+            a.jitter
+        }
+        Side::B => {
+            let b = r.b;
+            b.jitter
+        }
+    }
+}
+
+// The thirteen numbers of a channel's sound, in the order of a line.
+pub fn numbers(r: Receiver, side: Side) -> [u64; 13] {
+    let j = jitter_of(r, side);
+    let amount = buffered_samples(r, side);
     let next = j.next_sequence;
     [
         j.packets_received,
@@ -99,4 +118,42 @@ pub fn samples_agree(out: &[f32], text: &[u8], from: usize) -> Agreed {
         i += 1;
     }
     Agreed::Until(at)
+}
+
+pub enum Equality {
+    Holds,
+    Fails(Difference),
+}
+
+// Two lists of numbers of one length, under the name `what`.
+pub fn same(found: &[u64], expected: &[u64], what: usize) -> Equality {
+    if found.len() != expected.len() {
+        return Equality::Fails(Difference {
+            what,
+            place: found.len(),
+            found: found.len() as u64,
+            expected: expected.len() as u64,
+        });
+    }
+    let mut i = 0;
+    while i < found.len() {
+        if found[i] != expected[i] {
+            return Equality::Fails(Difference {
+                what,
+                place: i,
+                found: found[i],
+                expected: expected[i],
+            });
+        }
+        i += 1;
+    }
+    Equality::Holds
+}
+
+// The first difference of two comparisons.
+pub fn and_then(first: Equality, second: Equality) -> Equality {
+    match first {
+        Equality::Holds => second,
+        Equality::Fails(d) => Equality::Fails(d),
+    }
 }

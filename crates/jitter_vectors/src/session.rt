@@ -1,11 +1,19 @@
-// Runs a session: its calls one after the other, each held against its line.
+// Runs a session on each channel of a receiver: its calls one after the other, each held against its line.
+use crate::acts::Act;
+use crate::acts::Lent;
+use crate::acts::call_on;
+use crate::acts::sound;
 use crate::compare::Agreed;
 use crate::compare::Difference;
 use crate::compare::agree;
+use crate::compare::and_then;
 use crate::compare::numbers;
+use crate::compare::same;
 use crate::compare::samples_agree;
 use crate::tally::Ended;
 use crate::tally::Tally;
+use crate::tally::ended_as;
+use crate::tally::in_turn;
 use crate::tally::tallied;
 use crate::text::Call;
 use crate::text::behind_empty_line;
@@ -13,17 +21,31 @@ use crate::text::call_at;
 use crate::text::decimal;
 use crate::text::ends_at;
 use crate::text::name;
+use calls::Estimates;
+use calls::Side;
 use calls::Sizes;
-use jitter_buffer::JitterBuffer;
-use jitter_checked::Played;
-use jitter_checked::Pushed;
-use std::num::wrapping_add_u64;
+use receiver::SetUp;
+use receiver::setting_up::setup;
+use receiver_state::Answer;
+use receiver_state::Receiver;
 use std::num::wrapping_add_usize;
 
-// One call: the buffer behind it and the place of the next line, or what differs.
-pub enum Stepped {
-    Equal(JitterBuffer, usize),
-    Differs(Difference),
+// What a call left, and whether its line agrees.
+struct Stepped {
+    receiver: Receiver,
+    agreed: Agreed,
+}
+
+// A line's call, and the place behind it.
+struct Parsed {
+    act: Act,
+    at: usize,
+}
+
+// Where a session's next line stands, if there is one.
+enum Line {
+    At(usize),
+    Missing,
 }
 
 pub fn sizes(packet: usize, target: usize, max: usize) -> Sizes {
@@ -37,209 +59,249 @@ pub fn sizes(packet: usize, target: usize, max: usize) -> Sizes {
     }
 }
 
-// A call was refused, or its line is none.
-fn not_accepted() -> Difference {
+pub fn estimates() -> Estimates {
+    Estimates {
+        top: 0,
+        floor: 0,
+        range: 0,
+    }
+}
+
+// The number of the question that was answered with no; 0 where the call was accepted.
+pub fn refusal(answer: Answer) -> u64 {
+    let Answer::Refused(n) = answer else {
+        return 0;
+    };
+    n as u64
+}
+
+// A call's refusal where it must be accepted. 99 is a line that is no call, and what is longer than there is.
+pub fn refused_by(n: u64) -> Difference {
     Difference {
         what: 17,
         place: 0,
-        found: 0,
-        expected: 1,
+        found: n,
+        expected: 0,
     }
 }
 
-// The buffer goes on to the next line where all agrees.
-fn going(j: JitterBuffer, a: Agreed) -> Stepped {
+// The place of the next line.
+fn to_next_line(a: Agreed) -> Agreed {
     match a {
-        Agreed::Until(at) => Stepped::Equal(j, wrapping_add_usize(at, 1)),
-        Agreed::Not(d) => Stepped::Differs(d),
+        Agreed::Until(at) => Agreed::Until(wrapping_add_usize(at, 1)),
+        Agreed::Not(d) => Agreed::Not(d),
     }
 }
 
-// The thirteen numbers after a call.
-fn numbers_agree(
-    z: Sizes,
-    j: JitterBuffer,
-    fs: &[f32],
-    us: &[u32],
+// A datagram or a reset: it was accepted, and the thirteen numbers after it.
+fn call_agrees(found: &[u64; 13], answer: Answer, text: &[u8], at: usize) -> Agreed {
+    let refused = refusal(answer);
+    if refused != 0 {
+        return Agreed::Not(refused_by(refused));
+    }
+    to_next_line(agree(found, 0, text, at))
+}
+
+// A play: the thirteen numbers, what it answered, and the samples.
+fn play_agrees(found: &[u64; 13], answer: Answer, out: &[f32], text: &[u8], at: usize) -> Agreed {
+    let Answer::Played {
+        taken,
+        dropped,
+        short,
+    } = answer
+    else {
+        return Agreed::Not(refused_by(refusal(answer)));
+    };
+    let numbers = agree(found, 0, text, at);
+    let Agreed::Until(behind) = numbers else {
+        return numbers;
+    };
+    let amounts = agree(
+        &[taken as u64, dropped as u64, short as u64],
+        13,
+        text,
+        behind,
+    );
+    let Agreed::Until(last) = amounts else {
+        return amounts;
+    };
+    to_next_line(samples_agree(out, text, last))
+}
+
+// What a line's call left and answered. No play is longer than the output.
+fn line_agrees(
+    found: &[u64; 13],
+    a: Act,
+    answer: Answer,
+    out: &[f32],
     text: &[u8],
     at: usize,
 ) -> Agreed {
-    let amount = jitter_checked::buffered_samples(j, z, fs, us);
-    let found = numbers(j, amount);
-    agree(&found, 0, text, at)
-}
-
-// The samples first, first + 1 and so on, in 16 bits, two bytes to each.
-fn count_up(payload: &mut [u8], first: u64) {
-    let n = payload.len() / 2;
-    let mut i = 0;
-    let mut sample = first;
-    while i < n {
-        payload[2 * i] = (sample % 256) as u8;
-        payload[2 * i + 1] = (sample / 256 % 256) as u8;
-        sample = wrapping_add_u64(sample, 1);
-        i += 1;
+    let Act::Play(n) = a else {
+        return call_agrees(found, answer, text, at);
+    };
+    if n <= out.len() {
+        return play_agrees(found, answer, &out[0..n], text, at);
     }
+    Agreed::Not(refused_by(99))
 }
 
-// Pushes the first n bytes. No session has more than there are.
-fn push_counted(
-    z: Sizes,
-    j: JitterBuffer,
-    fs: &mut [f32],
-    us: &mut [u32],
-    sequence: u32,
-    payload: &[u8],
-    n: usize,
-) -> Pushed {
-    if n <= payload.len() {
-        return jitter_checked::push(j, z, fs, us, sequence, &payload[0..n]);
-    }
-    Pushed::Refused
-}
-
-fn push(
-    z: Sizes,
-    j: JitterBuffer,
-    fs: &mut [f32],
-    us: &mut [u32],
-    text: &[u8],
-    at: usize,
-) -> Stepped {
+fn push_at(text: &[u8], at: usize, side: Side) -> Parsed {
     let sequence = decimal(text, at);
     let count = decimal(text, sequence.at);
     let first = decimal(text, count.at);
-    let mut payload = [0u8; 256];
-    count_up(&mut payload, first.value);
-    let n = 2 * (count.value % 4096) as usize;
-    let s = (sequence.value % 4294967296) as u32;
-    let pushed = push_counted(z, j, fs, us, s, &payload, n);
-    match pushed {
-        Pushed::Refused => Stepped::Differs(not_accepted()),
-        Pushed::Done(b) => going(b, numbers_agree(z, b, fs, us, text, first.at)),
+    let header = sound(side, (sequence.value % 4294967296) as u32);
+    let n = 16 + 2 * (count.value % 4096) as usize;
+    Parsed {
+        act: Act::Datagram(header, first.value, n),
+        at: first.at,
     }
 }
 
-fn play_into(
-    z: Sizes,
-    j: JitterBuffer,
-    fs: &mut [f32],
-    us: &mut [u32],
-    out: &mut [f32],
-    text: &[u8],
-    at: usize,
-) -> Stepped {
-    let played = jitter_checked::play(j, z, fs, us, out);
-    match played {
-        Played::Refused => Stepped::Differs(not_accepted()),
-        Played::Done(p) => {
-            let b = p.buffer;
-            let agreed = numbers_agree(z, b, fs, us, text, at);
-            let Agreed::Until(behind) = agreed else {
-                return going(b, agreed);
-            };
-            let answer = [p.taken as u64, p.dropped as u64, p.short as u64];
-            let answered = agree(&answer, 13, text, behind);
-            let Agreed::Until(last) = answered else {
-                return going(b, answered);
-            };
-            going(b, samples_agree(out, text, last))
-        }
-    }
-}
-
-// Plays into the first n places. No session has more than there are.
-fn play_first(
-    z: Sizes,
-    j: JitterBuffer,
-    fs: &mut [f32],
-    us: &mut [u32],
-    out: &mut [f32],
-    n: usize,
-    text: &[u8],
-    at: usize,
-) -> Stepped {
-    if n <= out.len() {
-        return play_into(z, j, fs, us, &mut out[0..n], text, at);
-    }
-    Stepped::Differs(not_accepted())
-}
-
-fn play(
-    z: Sizes,
-    j: JitterBuffer,
-    fs: &mut [f32],
-    us: &mut [u32],
-    text: &[u8],
-    at: usize,
-) -> Stepped {
+fn play_at(text: &[u8], at: usize) -> Parsed {
     let count = decimal(text, at);
-    let n = (count.value % 65536) as usize;
-    let mut out = [3.0f32; 128];
-    play_first(z, j, fs, us, &mut out, n, text, count.at)
+    Parsed {
+        act: Act::Play((count.value % 65536) as usize),
+        at: count.at,
+    }
+}
+
+// A line that is no call is a datagram of no bytes, which is refused.
+fn parsed_at(text: &[u8], at: usize, side: Side) -> Parsed {
+    let call = call_at(text, at);
+    match call {
+        Call::Push => push_at(text, at, side),
+        Call::Play => play_at(text, at),
+        Call::Reset => Parsed {
+            act: Act::Reset,
+            at,
+        },
+        Call::Unknown => Parsed {
+            act: Act::Datagram(sound(side, 0), 0, 0),
+            at,
+        },
+    }
 }
 
 // One line.
 fn step(
-    z: Sizes,
-    j: JitterBuffer,
+    r: Receiver,
+    side: Side,
     fs: &mut [f32],
     us: &mut [u32],
+    lent: Lent,
+    out: &mut [f32],
     text: &[u8],
     at: usize,
 ) -> Stepped {
-    let call = call_at(text, at);
-    match call {
-        Call::Push => push(z, j, fs, us, text, at),
-        Call::Play => play(z, j, fs, us, text, at),
-        Call::Reset => {
-            let b = j.reset();
-            going(b, numbers_agree(z, b, fs, us, text, at))
+    let parsed = parsed_at(text, at, side);
+    let act = parsed.act;
+    let v = call_on(r, side, fs, us, lent, act, out);
+    let receiver = v.receiver;
+    let answer = v.answer;
+    let agreed = line_agrees(&numbers(receiver, side), act, answer, out, text, parsed.at);
+    Stepped { receiver, agreed }
+}
+
+// A session ends at an empty line, at the text's end, or at a difference.
+fn line_behind(a: Agreed, text: &[u8]) -> Line {
+    match a {
+        Agreed::Not(_) => Line::Missing,
+        Agreed::Until(at) => {
+            if ends_at(text, at) {
+                return Line::Missing;
+            }
+            Line::At(at)
         }
-        Call::Unknown => Stepped::Differs(not_accepted()),
     }
 }
 
-// The calls of one session, to an empty line or the text's end. A session has fewer than a hundred.
-fn steps(z: Sizes, fs: &mut [f32], us: &mut [u32], text: &[u8], from: usize) -> Ended {
-    let mut j = JitterBuffer::new();
-    let mut at = from;
+fn other(side: Side) -> Side {
+    match side {
+        Side::A => Side::B,
+        Side::B => Side::A,
+    }
+}
+
+// How a session of n calls on a channel ended: all its lines agree, the other channel is as it was, and the calls are
+// counted.
+fn ended(silent: &[u64; 13], counted: u64, side: Side, n: u64, a: Agreed) -> Ended {
+    let Agreed::Not(first) = a else {
+        let heard = same(silent, &[0u64; 13], 18);
+        let calls = same(&[counted], &[n], 19);
+        let last = and_then(heard, calls);
+        return ended_as(side, n, last);
+    };
+    Ended::Differs(side, n, first)
+}
+
+// The calls of one session, which has fewer than a hundred.
+fn steps(
+    begun: Receiver,
+    side: Side,
+    fs: &mut [f32; 1024],
+    us: &mut [u32; 64],
+    lent: Lent,
+    text: &[u8],
+    from: usize,
+) -> Ended {
+    let mut r = begun;
+    let mut agreed = Agreed::Until(from);
     let mut n: u64 = 0;
     while n < 100 {
-        if ends_at(text, at) {
-            return Ended::Equal(n);
-        }
-        let stepped = step(z, j, fs, us, text, at);
-        match stepped {
-            Stepped::Equal(b, next) => {
-                j = b;
-                at = next;
-            }
-            Stepped::Differs(d) => return Ended::Differs(n, d),
-        }
+        let line = line_behind(agreed, text);
+        let Line::At(at) = line else {
+            return ended(&numbers(r, other(side)), r.calls, side, n, agreed);
+        };
+        let mut out = [3.0f32; 128];
+        let s = step(r, side, fs, us, lent, &mut out, text, at);
+        r = s.receiver;
+        agreed = s.agreed;
         n += 1;
     }
-    Ended::Differs(n, not_accepted())
+    Ended::Differs(side, n, refused_by(99))
 }
 
-// The calls on exactly the buffer's parts. No session has larger ones than there are.
-fn on_parts(z: Sizes, fs: &mut [f32], us: &mut [u32], text: &[u8], at: usize) -> Ended {
+// What a receiver of these sizes needs, exactly.
+fn needed(z: Sizes) -> Lent {
     if !sizes::allowed(z) {
-        return Ended::Differs(0, not_accepted());
+        return Lent {
+            floats: 0,
+            words: 0,
+        };
     }
-    let offsets = sizes::section_offsets(z);
-    let floats = offsets.row;
-    let words = sizes::most_waiting(z);
-    if floats <= fs.len() {
-        if words <= us.len() {
-            return steps(z, &mut fs[0..floats], &mut us[0..words], text, at);
+    Lent {
+        floats: sizes::float_area(z),
+        words: sizes::word_area(z),
+    }
+}
+
+// Setup on so many places.
+pub fn setup_on(z: Sizes, fs: &[f32], us: &mut [u32], lent: Lent) -> SetUp {
+    let n = lent.floats;
+    let m = lent.words;
+    if n <= fs.len() {
+        if m <= us.len() {
+            return setup(z, estimates(), estimates(), &fs[0..n], &mut us[0..m]);
         }
     }
-    Ended::Differs(0, not_accepted())
+    SetUp::Refused(99)
 }
 
-// One session: its name, its sizes, its calls, whatever the free places hold.
-fn session(t: Tally, text: &[u8], at: usize) -> Tally {
+// A session on one channel, whatever the free places hold.
+fn on(z: Sizes, side: Side, text: &[u8], at: usize) -> Ended {
+    let mut fs = [2.0f32; 1024];
+    let mut us = [7u32; 64];
+    let lent = needed(z);
+    let begun = setup_on(z, &fs, &mut us, lent);
+    match begun {
+        SetUp::Refused(n) => Ended::Differs(side, 0, refused_by(n as u64)),
+        SetUp::Ready(r) => steps(r, side, &mut fs, &mut us, lent, text, at),
+    }
+}
+
+// One session: its name, its sizes, its calls on channel A and again on B.
+fn on_both(t: Tally, text: &[u8], at: usize) -> Tally {
     let packet = decimal(text, at);
     let target = decimal(text, packet.at);
     let max = decimal(text, target.at);
@@ -248,13 +310,11 @@ fn session(t: Tally, text: &[u8], at: usize) -> Tally {
         target.value as usize,
         max.value as usize,
     );
-    let mut fs = [2.0f32; 512];
-    let mut us = [7u32; 64];
+    let from = wrapping_add_usize(max.at, 1);
     name(text, at);
-    tallied(
-        t,
-        on_parts(z, &mut fs, &mut us, text, wrapping_add_usize(max.at, 1)),
-    )
+    let first = on(z, Side::A, text, from);
+    let second = on(z, Side::B, text, from);
+    tallied(t, in_turn(first, second))
 }
 
 // All sessions of a text, fewer than a hundred.
@@ -266,7 +326,7 @@ pub fn run(t: Tally, text: &[u8]) -> Tally {
         if text.len() <= at {
             return now;
         }
-        now = session(now, text, at);
+        now = on_both(now, text, at);
         at = behind_empty_line(text, at);
         n += 1;
     }

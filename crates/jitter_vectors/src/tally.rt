@@ -1,5 +1,7 @@
 // A session's line, and how many sessions and calls were run.
 use crate::compare::Difference;
+use crate::compare::Equality;
+use calls::Side;
 use std::num::wrapping_add_u64;
 
 pub struct Tally {
@@ -8,10 +10,29 @@ pub struct Tally {
     pub calls: u64,
 }
 
-// How a session ended: so many calls equal, or the call that differs.
+// How a session ended: so many calls equal, or the channel and its call that differs.
 pub enum Ended {
     Equal(u64),
-    Differs(u64, Difference),
+    Differs(Side, u64, Difference),
+}
+
+// The end of n calls of a channel.
+pub fn ended_as(side: Side, n: u64, last: Equality) -> Ended {
+    match last {
+        Equality::Holds => Ended::Equal(n),
+        Equality::Fails(d) => Ended::Differs(side, n, d),
+    }
+}
+
+// The calls of both, or the first difference.
+pub fn in_turn(first: Ended, second: Ended) -> Ended {
+    let Ended::Equal(m) = first else {
+        return first;
+    };
+    let Ended::Equal(n) = second else {
+        return second;
+    };
+    Ended::Equal(wrapping_add_u64(m, n))
 }
 
 pub fn fresh() -> Tally {
@@ -39,20 +60,29 @@ fn name_in(names: &[u8], what: usize) {
     }
 }
 
-// The names of a line's numbers: the thirteen of a buffer, the three of a play, a sample, and whether the
-// call was accepted.
+// The names of a line's numbers: the thirteen of a buffer, the three of a play, a sample, the question that refused the
+// call, the other channel's numbers, the number of accepted calls, and what a call must leave.
 fn name(what: usize) {
     name_in(
-        b"    received    inserted   concealed        late    overflowinvalid size     resyncs      filled     largest    buffered     started        next         run       taken     dropped       short      sample    accepted",
+        b"    received    inserted   concealed        late    overflowinvalid size     resyncs      filled     largest    buffered     started        next         run       taken     dropped       short      sample  refused by       other       calls        left",
         what,
     );
 }
 
-fn differs(call: u64, d: Difference) {
+fn channel(side: Side) {
+    match side {
+        Side::A => write(b"A"),
+        Side::B => write(b"B"),
+    }
+}
+
+fn differs(side: Side, call: u64, d: Difference) {
+    channel(side);
+    write(b" at call ");
     number(call);
     write(b",");
     name(d.what);
-    if d.what == 16 {
+    if 16 <= d.what {
         write(b" ");
         number(d.place as u64);
     }
@@ -77,9 +107,9 @@ pub fn tallied(t: Tally, e: Ended) -> Tally {
                 calls: wrapping_add_u64(t.calls, calls),
             }
         }
-        Ended::Differs(call, d) => {
-            write(b": DIFFERS at call ");
-            differs(call, d);
+        Ended::Differs(side, call, d) => {
+            write(b": DIFFERS on ");
+            differs(side, call, d);
             Tally {
                 sessions,
                 equal: t.equal,

@@ -16,8 +16,8 @@ loop-holds c = search needs
 returns : tie.Need-returns Inv-loop μ-loop
 returns c = search needs
 
-session-requires : tie.Need-session-requires Inv-loop μ-loop
-session-requires c κs = search needs
+on-both-requires : tie.Need-on-both-requires Inv-loop μ-loop
+on-both-requires c κs = search needs
 
 behind-empty-line-requires : tie.Need-behind-empty-line-requires Inv-loop μ-loop
 behind-empty-line-requires c κs = search needs
@@ -42,7 +42,7 @@ run-spec =
     μ-loop
     loop-holds
     returns
-    session-requires
+    on-both-requires
     behind-empty-line-requires
     add-n
     loop-less

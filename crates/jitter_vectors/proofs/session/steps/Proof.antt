@@ -1,52 +1,44 @@
--- `jitter_vectors::session::steps` ends after a hundred lines, and the parts keep their lengths. Assumes nothing.
+-- `jitter_vectors::session::steps` ends after a hundred calls. Assumes nothing.
 use Prim.Native.Nat.{_≤_, _-_}
-use mathlib.Core.Path.{_≡_}
-use lib.ListN.{length}
 use borrow.Author.Needs.{needs}
 use Rattle.jitter_vectors.proofs.session.steps.Statement.{statement}
 use Rattle.jitter_vectors.proofs.session.steps.Tie as tie
 
 abbrev Inv-loop : tie.InvT-loop
-Inv-loop z fs₀ us₀ text from j₀ at₀ n₀ fs us j at n = (length fs ≡ length fs₀) × (length us ≡ length us₀) × (n ≤ 100)
+Inv-loop side fs₀ us₀ lent text from r₀ agreed₀ n₀ fs us r agreed n = n ≤ 100
 
 abbrev μ-loop : tie.MeasureT-loop
-μ-loop z fs₀ us₀ text from j₀ at₀ n₀ fs us j at n = 100 - n
-
-new-requires : tie.Need-new-requires Inv-loop μ-loop
-new-requires c κs = search needs
+μ-loop side fs₀ us₀ lent text from r₀ agreed₀ n₀ fs us r agreed n = 100 - n
 
 loop-holds : tie.Need-loop-holds Inv-loop μ-loop
 loop-holds c = search needs
 
-ends-at-requires : tie.Need-ends-at-requires Inv-loop μ-loop
-ends-at-requires c κs = search needs
+line-behind-requires : tie.Need-line-behind-requires Inv-loop μ-loop
+line-behind-requires c κs = search needs
 
-same-length : tie.Need-same-length Inv-loop μ-loop
-same-length c = search needs
+enum-known-line : tie.Need-enum-known-line Inv-loop μ-loop
+enum-known-line c = search needs
 
-same-length-2 : tie.Need-same-length-2 Inv-loop μ-loop
-same-length-2 c = search needs
+enum-told : tie.Need-enum-told Inv-loop μ-loop
+enum-told c = search needs
+
+other-requires : tie.Need-other-requires Inv-loop μ-loop
+other-requires c κs = search needs
+
+numbers-requires : tie.Need-numbers-requires Inv-loop μ-loop
+numbers-requires c κs = search needs
+
+ended-requires : tie.Need-ended-requires Inv-loop μ-loop
+ended-requires c κs = search needs
 
 returns : tie.Need-returns Inv-loop μ-loop
 returns c = search needs
 
+slice-aggregate-step : tie.Need-slice-aggregate-step Inv-loop μ-loop
+slice-aggregate-step c = search needs
+
 step-requires : tie.Need-step-requires Inv-loop μ-loop
 step-requires c κs = search needs
-
-enum-known-stepped : tie.Need-enum-known-stepped Inv-loop μ-loop
-enum-known-stepped c = search needs
-
-enum-known-stepped-2 : tie.Need-enum-known-stepped-2 Inv-loop μ-loop
-enum-known-stepped-2 c = search needs
-
-same-length-3 : tie.Need-same-length-3 Inv-loop μ-loop
-same-length-3 c = search needs
-
-same-length-4 : tie.Need-same-length-4 Inv-loop μ-loop
-same-length-4 c = search needs
-
-returns-2 : tie.Need-returns-2 Inv-loop μ-loop
-returns-2 c = search needs
 
 add-n : tie.Need-add-n Inv-loop μ-loop
 add-n c = search needs
@@ -57,17 +49,11 @@ loop-less c = search needs
 loop-again : tie.Need-loop-again Inv-loop μ-loop
 loop-again c = search needs
 
-not-accepted-requires : tie.Need-not-accepted-requires Inv-loop μ-loop
-not-accepted-requires c κs = search needs
+refused-by-requires : tie.Need-refused-by-requires Inv-loop μ-loop
+refused-by-requires c κs = search needs
 
-same-length-5 : tie.Need-same-length-5 Inv-loop μ-loop
-same-length-5 c = search needs
-
-same-length-6 : tie.Need-same-length-6 Inv-loop μ-loop
-same-length-6 c = search needs
-
-returns-3 : tie.Need-returns-3 Inv-loop μ-loop
-returns-3 c = search needs
+returns-2 : tie.Need-returns-2 Inv-loop μ-loop
+returns-2 c = search needs
 
 pub steps-spec : {M : Type 1} → statement M
 steps-spec =
@@ -75,22 +61,18 @@ steps-spec =
     (tie.spec
     Inv-loop
     μ-loop
-    new-requires
     loop-holds
-    ends-at-requires
-    same-length
-    same-length-2
+    line-behind-requires
+    enum-known-line
+    enum-told
+    other-requires
+    numbers-requires
+    ended-requires
     returns
+    slice-aggregate-step
     step-requires
-    enum-known-stepped
-    enum-known-stepped-2
-    same-length-3
-    same-length-4
-    returns-2
     add-n
     loop-less
     loop-again
-    not-accepted-requires
-    same-length-5
-    same-length-6
-    returns-3)
+    refused-by-requires
+    returns-2)

@@ -1,4 +1,0 @@
-pub mod Answered
-pub mod Checked
-pub mod Exported
-pub mod ReadBack
