@@ -1,11 +1,14 @@
 -- Numbers stored one after the other, as far as a slice goes. Assumes nothing.
-use Prim.Native.Nat.{ℕ, suc, _+_, _-_, _≤_, _<_}
+use Prim.Native.Nat.{ℕ, suc, _+_, _-_, _≤_, _<_, min}
 use mathlib.Core.Path.{_≡_, refl, sym, _∙_, ap}
+use mathlib.Core.Bool.{Bool, true, false}
 use mathlib.Core.List.{List, [], _∷_, _++_}
 use native.Mathlib.Nat.{add-zero}
 use native.Mathlib.Numerals.{add-one}
 use native.Mathlib.Omega.{arith}
 use lib.ListN.{length, take, drop, set, getD, length-take, length-drop, take-append-drop}
+use lib.Dec.{leb}
+use borrow.Author.Tests.{leb-true, leb-false}
 use lib.Seq.{sets, length-sets, set-out, take-suc, take-all}
 
 -- one word more
@@ -28,16 +31,24 @@ sets-append w at [] ys = ap (λ (i : ℕ). sets w i ys) (add-zero at)
 sets-append w at (x ∷ xs) ys = ap (λ (i : ℕ). sets (sets (set w at x) (suc at) xs) i ys) (omega arith) ∙ sets-append (set w at x) (suc at) xs ys
 
 -- nothing is stored behind the end
-sets-past : (w : List ℕ) (at : ℕ) (xs : List ℕ) → length w ≤ at → sets w at xs ≡ w
+pub sets-past : (w : List ℕ) (at : ℕ) (xs : List ℕ) → length w ≤ at → sets w at xs ≡ w
 sets-past w at [] past = refl
 sets-past w at (x ∷ xs) past = rw (set-out w at x past) (sets-past w (suc at) xs (omega arith))
 
 -- numbers up to the end are all that are stored
-pub sets-to-end : (w : List ℕ) (at i : ℕ) (xs : List ℕ) → i ≤ length xs → length w ≤ at + i → sets w at (take i xs) ≡ sets w at xs
+sets-to-end : (w : List ℕ) (at i : ℕ) (xs : List ℕ) → i ≤ length xs → length w ≤ at + i → sets w at (take i xs) ≡ sets w at xs
 sets-to-end w at i xs few past =
     let long : length (take i xs) ≡ i = simp length-take (omega arith) in
     let rest = rw (long, take-append-drop i xs) at (sets-append w at (take i xs) (drop i xs)) in
     sym (sets-past (sets w at (take i xs)) (at + i) (drop i xs) (rw (length-sets w at (take i xs)) past)) ∙ rest
+
+-- as many numbers as fit are all that are stored
+pub sets-fitting : (w : List ℕ) (at i : ℕ) (xs : List ℕ) → at ≤ length w → i ≡ min (length xs) (length w - at) → sets w at (take i xs) ≡ sets w at xs
+sets-fitting w at i xs inside is = whether (leb (length xs) (length w - at)) refl
+  where
+    whether : (b : Bool) → leb (length xs) (length w - at) ≡ b → sets w at (take i xs) ≡ sets w at xs
+    whether true e = ap (sets w at) (take-all i xs (omega (arith, leb-true (length xs) (length w - at) e)))
+    whether false e = let more = leb-false (length xs) (length w - at) e in sets-to-end w at i xs (omega arith) (omega arith)
 
 -- words stored right behind the first k
 pub then : (w xs : List ℕ) {v v′ ys zs : List ℕ} (k : ℕ) → length xs ≡ k → v ≡ sets w 0 xs → v′ ≡ sets v k zs → zs ≡ ys → v′ ≡ sets w 0 (xs ++ ys)
