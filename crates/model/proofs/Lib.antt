@@ -35,3 +35,4 @@ pub mod TapeExact
 pub mod TapeBadCall
 pub mod TapeBadCalls
 pub mod TapeFirstBad
+pub mod Decimal

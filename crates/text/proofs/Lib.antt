@@ -1,0 +1,4 @@
+pub mod WrittenLaws
+pub mod FittedLaws
+pub mod DigitLaws
+pub mod SignedLaws
