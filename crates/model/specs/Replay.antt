@@ -1,5 +1,5 @@
 -- Replay: a tape in, lines of text out. Text is a list of ASCII codes; words of a line stand a space apart. Assumes nothing.
-use Prim.Native.Nat.{ℕ, zero, suc, _+_, _/_, _%_, _^_}
+use Prim.Native.Nat.{ℕ, zero, suc, _+_, _*_, _/_, _%_, _^_}
 use mathlib.Core.Bool.{cond}
 use mathlib.Core.Option.{Option, none, some}
 use mathlib.Core.List.{List, [], _∷_, _++_, map}
@@ -137,24 +137,33 @@ closingLines s =
 
 -- ---- a tape
 
--- replay's areas
-abbrev pub replayAreas : Lent
-replayAreas = record { floats = 16384; words = 16384 }
-
-unfoldable pub sessionLines : List Call → Opened → List ℕ
-sessionLines calls (notOpened n) = refusedLine n
-sessionLines calls (opened s) =
-    let r = run replayAreas calls s in
+-- the lines of a session over areas of these lengths: those of its calls and then the closing ones, or the X line of a refused setup
+unfoldable pub sessionLines : Lent → List Call → Opened → List ℕ
+sessionLines lent calls (notOpened n) = refusedLine n
+sessionLines lent calls (opened s) =
+    let r = run lent calls s in
     eventLines (r .events) ++ closingLines (r .after)
 
 -- a refused tape prints only its X line, 11 followed by the place
 unfoldable pub badTapeLine : ℕ → List ℕ
 badTapeLine place = line 88 (decimal 11 ∷ decimal place ∷ [])
 
-unfoldable pub tapeLines : TapeRead → List ℕ
-tapeLines (badTape place) = badTapeLine place
-tapeLines (readTape t) = sessionLines (t .calls) (setUp replayAreas (t .setup))
+unfoldable pub tapeLines : Lent → TapeRead → List ℕ
+tapeLines lent (badTape place) = badTapeLine place
+tapeLines lent (readTape t) = sessionLines lent (t .calls) (setUp lent (t .setup))
 
--- one tape of at most 65,536 bytes; a longer one is refused at place 16,384
+-- a tape of any length
+unfoldable pub replayOver : Lent → List ℕ → List ℕ
+replayOver lent bytes = tapeLines lent (read bytes)
+
+-- a tape of at most so many words; a longer one is refused at the place behind them
+unfoldable pub replayWithin : Lent → ℕ → List ℕ → List ℕ
+replayWithin lent words bytes = cond (leb (length bytes) (4 * words)) (replayOver lent bytes) (badTapeLine words)
+
+-- ---- the program replay: areas of 16,384 words, and a tape of at most 65,536 bytes
+
+abbrev pub replayAreas : Lent
+replayAreas = record { floats = 16384; words = 16384 }
+
 unfoldable pub replay : List ℕ → List ℕ
-replay bytes = cond (leb (length bytes) 65536) (tapeLines (read bytes)) (badTapeLine 16384)
+replay bytes = replayWithin replayAreas 16384 bytes
