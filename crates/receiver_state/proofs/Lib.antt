@@ -4,3 +4,4 @@ pub mod SideCalls
 pub mod Lending
 pub mod RowLending
 pub mod Reading
+pub mod Closing

@@ -3,6 +3,7 @@
 pub mod asking;
 pub mod counted;
 pub mod readings;
+pub mod report;
 pub mod sides;
 
 use audio_metrics::AudioMetrics;

@@ -1,6 +1,6 @@
 // Readings: where a channel's row and picture stand in the lent areas, and how much a channel buffers. They take any
-// sizes and any state. The rest of a receiver needs no reading here: the counters are public fields, and the clock's
-// numbers are public functions of AudioMetrics that ask nothing.
+// sizes and any state. The counters are told by `report_of`; the clock's numbers in ms are functions of AudioMetrics that ask
+// nothing.
 ghost use mathlib.Core.Path.{_≡_};
 ghost use Rattle.calls.specs.Views.{sizesOf};
 ghost use Rattle.receiver_state.specs.View.{rowPlace, channelAt};
