@@ -36,3 +36,5 @@ pub mod TapeBadCall
 pub mod TapeBadCalls
 pub mod TapeFirstBad
 pub mod Decimal
+pub mod TapeWalk
+pub mod ReplaySteps
