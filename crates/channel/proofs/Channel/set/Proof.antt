@@ -20,7 +20,7 @@ from-bits-requires-4 c κs = search needs
 returns : tie.Need-returns
 unfolding setChannel setDisplay
 returns c =
-    λ z fs us. rw (c .before .before .before .from-bits .ensures, c .before .before .from-bits2 .ensures, c .before .from-bits3 .ensures, c .from-bits4 .ensures)
+    λ z fs us. simp (c .before .before .before .from-bits .ensures, c .before .before .from-bits2 .ensures, c .before .from-bits3 .ensures, c .from-bits4 .ensures)
 
 pub set-spec : {M : Type 1} → statement M
 set-spec =
