@@ -7,10 +7,10 @@ use Rattle.model.specs.Step.{Event}
 use Rattle.calls.specs.declared.Sizes.{Sizes}
 use Rattle.calls.specs.declared.Estimates.{Estimates}
 use Rattle.receiver_state.specs.declared.Receiver.{Receiver}
-use Rattle.receiver.specs.declared.SetUp.the-variants.{Ready}
+use Rattle.receiver_setup.specs.declared.Opening.the-variants.{Ready}
 use Rattle.receiver_state.specs.View.{stateOf, lentOf}
 use Rattle.receiver_state.specs.Promises.{Called}
-use Rattle.receiver.specs.Promises.{SetupDone}
+use Rattle.receiver_setup.specs.Promises.{SetupDone}
 
 -- the receiver and the two lent areas between two calls
 pub record Moment : Type 0 where

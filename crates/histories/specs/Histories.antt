@@ -16,7 +16,7 @@ use Rattle.calls.specs.Views.{modelSide, sizesOf}
 use Rattle.jitter_buffer.specs.declared.JitterBuffer.{JitterBuffer}
 use Rattle.jitter_buffer.specs.declared.NextSequence.the-variants.{Next}
 use Rattle.receiver_state.specs.View.{channelAt, wordStart}
-use Rattle.receiver.specs.Promises.{modelSetup}
+use Rattle.receiver_setup.specs.Promises.{modelSetup}
 use Rattle.histories.specs.Chains.{Moment, stateAt, lentAt, callsOf}
 
 -- ---- lines

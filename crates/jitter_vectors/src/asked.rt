@@ -20,8 +20,8 @@ use crate::tally::in_turn;
 use calls::Side;
 use calls::Sizes;
 use jitter_buffer::JitterBuffer;
-use receiver::SetUp;
-use receiver::setting_up::setup;
+use receiver_setup::Opening;
+use receiver_setup::setup;
 use receiver_state::Answered;
 use receiver_state::Receiver;
 use std::num::wrapping_add_u64;
@@ -313,8 +313,8 @@ pub fn called(side: Side, change: Change, lent: Lent, a: Act, expect: Expect) ->
     let mut us = [7u32; 11];
     let begun = setup(sizes(4, 8, 16), estimates(), estimates(), &fs, &mut us);
     match begun {
-        SetUp::Refused(n) => Ended::Differs(side, 0, refused_by(wide(n))),
-        SetUp::Ready(r) => {
+        Opening::Refused(n) => Ended::Differs(side, 0, refused_by(wide(n))),
+        Opening::Ready(r) => {
             let act = on_side(a, side);
             let done = call_playing(r, side, &mut fs, &mut us, change, lent, act, expect);
             ended_as(side, 1, done)
@@ -331,10 +331,10 @@ pub fn all_called(side: Side, change: Change, lent: Lent, expect: Expect) -> End
 }
 
 // The number of the question that refused a setup; 0 where it was accepted.
-fn setup_refusal(begun: SetUp) -> u64 {
+fn setup_refusal(begun: Opening) -> u64 {
     match begun {
-        SetUp::Refused(n) => wide(n),
-        SetUp::Ready(_) => 0,
+        Opening::Refused(n) => wide(n),
+        Opening::Ready(_) => 0,
     }
 }
 

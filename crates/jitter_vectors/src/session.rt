@@ -24,8 +24,8 @@ use crate::text::name;
 use calls::Estimates;
 use calls::Side;
 use calls::Sizes;
-use receiver::SetUp;
-use receiver::setting_up::setup;
+use receiver_setup::Opening;
+use receiver_setup::setup;
 use receiver_state::Answer;
 use receiver_state::Receiver;
 use std::num::wrapping_add_usize;
@@ -277,7 +277,7 @@ fn needed(z: Sizes) -> Lent {
 }
 
 // Setup on so many places.
-pub fn setup_on(z: Sizes, fs: &[f32], us: &mut [u32], lent: Lent) -> SetUp {
+pub fn setup_on(z: Sizes, fs: &[f32], us: &mut [u32], lent: Lent) -> Opening {
     let n = lent.floats;
     let m = lent.words;
     if n <= fs.len() {
@@ -285,7 +285,7 @@ pub fn setup_on(z: Sizes, fs: &[f32], us: &mut [u32], lent: Lent) -> SetUp {
             return setup(z, estimates(), estimates(), &fs[0..n], &mut us[0..m]);
         }
     }
-    SetUp::Refused(99)
+    Opening::Refused(99)
 }
 
 // A session on one channel, whatever the free places hold.
@@ -295,8 +295,8 @@ fn on(z: Sizes, side: Side, text: &[u8], at: usize) -> Ended {
     let lent = needed(z);
     let begun = setup_on(z, &fs, &mut us, lent);
     match begun {
-        SetUp::Refused(n) => Ended::Differs(side, 0, refused_by(n as u64)),
-        SetUp::Ready(r) => steps(r, side, &mut fs, &mut us, lent, text, at),
+        Opening::Refused(n) => Ended::Differs(side, 0, refused_by(n as u64)),
+        Opening::Ready(r) => steps(r, side, &mut fs, &mut us, lent, text, at),
     }
 }
 

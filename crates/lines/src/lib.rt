@@ -95,7 +95,7 @@ pub fn put_values(out: &mut [u8], values: &[f32]) -> usize
     n
 }
 
-fn side_letter(side: Side) -> u8
+pub fn side_letter(side: Side) -> u8
     ensures { λ r. ⌜ r ≡ sideLetter (modelSide side) ⌝ }
 {
     match side {

@@ -198,13 +198,17 @@ module _ (r : Receiver) (fs : List Float) (us bytes : List ℕ) (h : MediaHeader
 
   -- ---- a stream that no channel takes
 
-  pub passed-called : streamIn bytes ≡ Framing.otherStream → DatagramTaken r fs us bytes (record { receiver = counted (headerSet (r .audio) (r .waterfall) r); answer = Answer.NoRow }) fs us
+  passed-counted : streamIn bytes ≡ Framing.otherStream → DatagramTaken r fs us bytes (record { receiver = counted (headerSet (r .audio) (r .waterfall) r); answer = Answer.NoRow }) fs us
   unfolding dispatch countsAfter isAccepted
-  passed-called stream =
+  passed-counted stream =
       record {
         called = datagram-called Framing.otherStream stream (r .audio) (r .waterfall) refl (row none) refl (headerSet (r .audio) (r .waterfall) r) fs us refl (areas-same (sizesOf (r .sizes)) fs us);
         row-bins = tt;
       }
+
+  pub passed-called : (begun r′ : Receiver) → streamIn bytes ≡ Framing.otherStream → begun ≡ headerSet (r .audio) (r .waterfall) r → r′ ≡ counted begun
+      → DatagramTaken r fs us bytes (record { receiver = r′; answer = Answer.NoRow }) fs us
+  passed-called begun r′ stream header call = rw (call, header) (passed-counted stream)
 
   -- ---- rows
 

@@ -2,4 +2,3 @@ pub mod ClockCalls
 pub mod SettingCalls
 pub mod PlayCalls
 pub mod DatagramCalls
-pub mod SetupCalls

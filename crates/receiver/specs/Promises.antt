@@ -1,36 +1,31 @@
--- What setup, a play and a datagram promise; the other calls promise `Called` alone. Assumes nothing.
-use Prim.Native.Nat.{ℕ, _+_, _*_, _≤_}
+-- What a play and a datagram promise; the other calls promise `Called` alone. Assumes nothing.
+use Prim.Native.Nat.{ℕ, _≤_}
 use mathlib.Core.Path.{_≡_}
 use mathlib.Core.Bool.{true, false}
 use mathlib.Core.List.{List, [], _∷_}
-use lib.ListN.{length, drop, replicate}
+use lib.ListN.{length, drop}
 use lib.Ieee.{Float}
-use Rattle.model.specs.Bytes.{placed}
 use Rattle.model.specs.Sizes as Sizing
-use Rattle.model.specs.Sizes.{mostWaiting, wordSection}
 use Rattle.model.specs.Framing as Framing
 use Rattle.model.specs.Counts as Counts
 use Rattle.model.specs.Framing.{headerFields, validHeader, streamIn}
 use Rattle.model.specs.Receiver as Model
-use Rattle.model.specs.Receiver.{isAccepted, fresh}
-use Rattle.model.specs.Questions.{lengthAllowed, setUp, opened, notOpened, Question, ask, streamAllowed}
+use Rattle.model.specs.Receiver.{isAccepted}
+use Rattle.model.specs.Questions.{lengthAllowed, Question, ask, streamAllowed}
 use Rattle.calls.specs.declared.Side.{Side}
 use Rattle.calls.specs.declared.Side.the-variants.{A, B}
 use Rattle.calls.specs.declared.Sizes.{Sizes}
-use Rattle.calls.specs.declared.Estimates.{Estimates}
-use Rattle.calls.specs.Views.{modelSide, sizesOf, modelEstimates}
+use Rattle.calls.specs.Views.{modelSide, sizesOf}
 use Rattle.udp_framing.specs.declared.MediaHeader.{MediaHeader}
 use Rattle.udp_framing.specs.Views.{headerOf}
 use Rattle.receiver_state.specs.declared.Receiver.{Receiver}
 use Rattle.receiver_state.specs.declared.Answer.{Answer}
 use Rattle.receiver_state.specs.declared.Answer.the-variants.{Refused, Accepted, Played, NoRow, Row}
 use Rattle.receiver_state.specs.declared.Answered.{Answered}
-use Rattle.receiver.specs.declared.SetUp.{SetUp}
-use Rattle.receiver.specs.declared.SetUp.the-variants as Setting
 use Rattle.receiver.specs.declared.datagrams.Stream.{Stream}
 use Rattle.receiver.specs.declared.datagrams.Stream.the-variants as Streams
 use Rattle.receiver_state.specs.Promises.{Called, Ready}
-use Rattle.receiver_state.specs.View.{answerOf, stateOf, lentOf, streamPlace}
+use Rattle.receiver_state.specs.View.{answerOf, streamPlace}
 
 -- ---- a play
 
@@ -84,26 +79,3 @@ rowsAt r bytes fs = drop (streamPlace (sizesOf (r .sizes)) (streamIn bytes)) fs
 pub record DatagramTaken (r : Receiver) (fs : List Float) (us bytes : List ℕ) (v : Answered) (fs′ : List Float) (us′ : List ℕ) : Type 0 where
   pub called : Called (Model.datagram bytes) r fs us (answerOf (v .answer) (rowsAt r bytes fs′)) (v .receiver) fs′ us′
   pub row-bins : RowBins (v .answer) (r .sizes .bins)
-
--- ---- setup
-
-abbrev pub modelSetup : Sizes → Estimates → Estimates → Model.Setup
-modelSetup z a b = record { sizes = sizesOf z; estimatesA = modelEstimates a; estimatesB = modelEstimates b }
-
--- the u32 area with both pictures zeroed: A's, and then B's
-abbrev pub picturesZeroed : Sizes → List ℕ → List ℕ
-picturesZeroed z us =
-    placed (wordSection (sizesOf z) + mostWaiting (sizesOf z)) (replicate (z .width * z .height) 0)
-    (placed (mostWaiting (sizesOf z)) (replicate (z .width * z .height) 0) us)
-
--- whatever the areas hold, the view after an accepted setup is the model's fresh receiver; of the u32 area the pictures are written and nothing else
-pub record SetupAccepted (z : Sizes) (a b : Estimates) (fs : List Float) (us : List ℕ) (r : Receiver) (us′ : List ℕ) : Type 0 where
-  pub opens : setUp (lentOf fs us) (modelSetup z a b) ≡ opened (stateOf r fs us′)
-  pub is-fresh : stateOf r fs us′ ≡ fresh (modelSetup z a b)
-  pub words : us′ ≡ picturesZeroed z us
-  pub word-length : length us′ ≡ length us
-
--- a refused setup changes nothing
-abbrev pub SetupDone : Sizes → Estimates → Estimates → List Float → List ℕ → SetUp → List ℕ → Type 0
-SetupDone z a b fs us (Setting.Refused n) us′ = (setUp (lentOf fs us) (modelSetup z a b) ≡ notOpened n) × (us′ ≡ us)
-SetupDone z a b fs us (Setting.Ready r) us′ = SetupAccepted z a b fs us r us′

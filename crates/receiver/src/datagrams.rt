@@ -34,7 +34,7 @@ pub enum Stream {
     Other,
 }
 
-fn stream_of(stream_type: u8) -> Stream
+pub fn stream_of(stream_type: u8) -> Stream
     ensures { λ v. ⌜ modelStream v ≡ streamOf «stream_type» ⌝ }
 {
     match stream_type {
@@ -129,8 +129,9 @@ fn passed_over(r: Receiver, fs: &[f32], us: &[u32], bytes: &[u8], header: MediaH
 {
     let sound = r.audio;
     let rows = r.waterfall;
+    let begun = count_header(r, sound, rows);
     Answered {
-        receiver: count_call(count_header(r, sound, rows)),
+        receiver: count_call(begun),
         answer: Answer::NoRow,
     }
 }

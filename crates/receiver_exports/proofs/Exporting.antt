@@ -13,8 +13,8 @@ use Rattle.calls.specs.declared.Sizes.{Sizes}
 use Rattle.calls.specs.declared.Estimates.{Estimates}
 use Rattle.receiver_state.specs.declared.Receiver.{Receiver}
 use Rattle.receiver_state.specs.declared.Answered.{Answered}
-use Rattle.receiver.specs.declared.SetUp.{SetUp}
-use Rattle.receiver.specs.Promises.{SetupDone}
+use Rattle.receiver_setup.specs.declared.Opening.{Opening}
+use Rattle.receiver_setup.specs.Promises.{SetupDone}
 use Rattle.receiver_words.specs.State.{receiverAt, answerWords, stateLeft, setupWords, setupLeft}
 use Rattle.receiver_exports.specs.Exported.{wordsThere, Promise, Exported, SetupExported}
 
@@ -43,7 +43,7 @@ module _ (state answer : List ℕ) where
     pub setup-too-short : {r : Bool} → r ≡ wordsThere state answer → r ≡ false → SetupExported z a b fs us us state answer state answer false
     setup-too-short asked told = record { acts = sym told ∙ asked; short = λ e. (refl, refl, refl); left = λ e. clash (cc) }
 
-    pub setup-acted : {r : Bool} (s : SetUp) {us′ state′ answer′ : List ℕ} → r ≡ wordsThere state answer → r ≡ true → SetupDone z a b fs us s us′
+    pub setup-acted : {r : Bool} (s : Opening) {us′ state′ answer′ : List ℕ} → r ≡ wordsThere state answer → r ≡ true → SetupDone z a b fs us s us′
         → (state′ ≡ setupLeft s state) × (answer′ ≡ sets answer 0 (setupWords s)) → SetupExported z a b fs us us′ state answer state′ answer′ true
     setup-acted s asked told done words =
         record {

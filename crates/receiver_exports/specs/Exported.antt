@@ -14,10 +14,11 @@ use Rattle.calls.specs.declared.Sizes.{Sizes}
 use Rattle.calls.specs.declared.Estimates.{Estimates}
 use Rattle.receiver_state.specs.declared.Receiver.{Receiver}
 use Rattle.receiver_state.specs.declared.Answered.{Answered}
-use Rattle.receiver.specs.declared.SetUp.{SetUp}
+use Rattle.receiver_setup.specs.declared.Opening.{Opening}
 use Rattle.receiver_state.specs.View.{answerOf}
 use Rattle.receiver_state.specs.Promises.{Called}
-use Rattle.receiver.specs.Promises.{PlayedOut, DatagramTaken, SetupDone}
+use Rattle.receiver.specs.Promises.{PlayedOut, DatagramTaken}
+use Rattle.receiver_setup.specs.Promises.{SetupDone}
 use Rattle.receiver_words.specs.State.{receiverAt, answerWords, stateLeft, setupWords, setupLeft}
 
 -- 0 is channel A, and any other number B
@@ -64,7 +65,7 @@ NoneWritten = Unit {0}
 -- ---- setup
 
 pub record SetupLeft (z : Sizes) (a b : Estimates) (fs : List Float) (us us′ state answer state′ answer′ : List ℕ) : Type 0 where
-  pub set-up : SetUp
+  pub set-up : Opening
   pub done : SetupDone z a b fs us set-up us′
   pub state-left : state′ ≡ setupLeft set-up state
   pub answer-left : answer′ ≡ sets answer 0 (setupWords set-up)

@@ -10,7 +10,7 @@ use calls::Estimates;
 use calls::Settings;
 use calls::Side;
 use calls::Sizes;
-use receiver::setting_up::setup;
+use receiver_setup::setup;
 use receiver_words::state::leave;
 use receiver_words::state::leave_setup;
 use receiver_words::state::receiver_at;

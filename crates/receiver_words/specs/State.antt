@@ -21,8 +21,8 @@ use Rattle.receiver_state.specs.declared.Receiver.{Receiver}
 use Rattle.receiver_state.specs.declared.Answer.{Answer}
 use Rattle.receiver_state.specs.declared.Answer.the-variants.{Refused, Accepted, Played, NoRow, Row}
 use Rattle.receiver_state.specs.declared.Answered.{Answered}
-use Rattle.receiver.specs.declared.SetUp.{SetUp}
-use Rattle.receiver.specs.declared.SetUp.the-variants as Setting
+use Rattle.receiver_setup.specs.declared.Opening.{Opening}
+use Rattle.receiver_setup.specs.declared.Opening.the-variants as Setting
 use Rattle.receiver_words.specs.Words.{sizesIn, countsIn, bufferIn, screenIn, countWords, bufferWords, screenWords}
 
 -- ---- the clock of the model's clock
@@ -108,10 +108,10 @@ unfoldable pub stateLeft : Answered → List ℕ → List ℕ
 stateLeft v w = cond (isRefused (v .answer)) w (sets w 0 (receiverWords (v .receiver)))
 
 -- setup's answer: 0 and a refusal's number, or 1
-abbrev pub setupWords : SetUp → List ℕ
+abbrev pub setupWords : Opening → List ℕ
 setupWords (Setting.Refused n) = 0 ∷ n ∷ 0 ∷ 0 ∷ []
 setupWords (Setting.Ready r) = 1 ∷ 0 ∷ 0 ∷ 0 ∷ []
 
-abbrev pub setupLeft : SetUp → List ℕ → List ℕ
+abbrev pub setupLeft : Opening → List ℕ → List ℕ
 setupLeft (Setting.Refused n) w = w
 setupLeft (Setting.Ready r) w = sets w 0 (receiverWords r)

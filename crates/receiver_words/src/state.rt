@@ -15,7 +15,7 @@ use crate::words::sizes_from;
 use audio_metrics::words::to_words;
 use channel::Channel;
 use numbers::put;
-use receiver::SetUp;
+use receiver_setup::Opening;
 use receiver_state::Answer;
 use receiver_state::Answered;
 use receiver_state::Receiver;
@@ -131,13 +131,13 @@ pub fn leave(state: &mut [u64], answer: &mut [u64], v: Answered)
 }
 
 // What setup left and answered, in words. A refusal leaves the state's as they were.
-pub fn leave_setup(state: &mut [u64], answer: &mut [u64], s: SetUp)
+pub fn leave_setup(state: &mut [u64], answer: &mut [u64], s: Opening)
     requires { ⌜ (90 ≤ length (now state)) × (4 ≤ length (now answer)) ⌝ }
     ensures { λ _. ⌜ (now (state .exit) ≡ setupLeft s (now (state .entry))) × (now (answer .exit) ≡ sets (now (answer .entry)) 0 (setupWords s)) ⌝ }
 {
     match s {
-        SetUp::Refused(n) => put(answer, 0, &[0, n as u64, 0, 0]),
-        SetUp::Ready(r) => {
+        Opening::Refused(n) => put(answer, 0, &[0, n as u64, 0, 0]),
+        Opening::Ready(r) => {
             put(answer, 0, &[1, 0, 0, 0]);
             write_receiver(state, r);
         }

@@ -11,6 +11,7 @@ use Rattle.text.specs.declared.Put.{Put}
 use Rattle.text.specs.declared.Put.the-variants as Put
 use Rattle.lines.specs.Lines.{spaced}
 use Rattle.receiver_state.specs.declared.Answer.{Answer}
+use Rattle.receiver_state.specs.declared.Answer.the-variants.{Refused, Accepted, Played, NoRow, Row}
 use Rattle.receiver_state.specs.View.{answerOf}
 use Rattle.replaying.specs.declared.printing.Left.{Left}
 use Rattle.replaying.specs.declared.printing.Left.the-variants.{Nothing, Samples, Values}
@@ -31,9 +32,18 @@ leftOf Nothing values = []
 leftOf Samples values = valuesEnded values
 leftOf (Values n) values = valuesEnded (take n values)
 
+-- a play has its samples left, and a row its values
+abbrev pub leftBehind : Answer → Left
+leftBehind (Refused n) = Nothing
+leftBehind Accepted = Nothing
+leftBehind (Played taken dropped short) = Samples
+leftBehind NoRow = Nothing
+leftBehind (Row n) = Values n
+
 -- a line's beginning stands at the front, and with what is left it is the line of the answer
 pub record LineBegun (side : Side) (a : Answer) (entry exit : List ℕ) (b : Begun) : Type 0 where
   pub text : List ℕ
   pub written : b .written ≡ length text
   pub target : exit ≡ placed 0 text entry
+  pub left : b .left ≡ leftBehind a
   pub line : (values : List Float) → answerLine side (answerOf a values) ≡ text ++ leftOf (b .left) values

@@ -23,7 +23,7 @@ pub struct Begun {
     pub left: Left,
 }
 
-fn length_put(p: Put) -> usize
+pub fn length_put(p: Put) -> usize
     ensures { λ r. ⌜ r ≡ lengthPut p ⌝ }
 {
     match p {

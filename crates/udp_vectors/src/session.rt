@@ -9,8 +9,8 @@ use calls::Settings;
 use calls::Side;
 use calls::Sizes;
 use channel::Channel;
-use receiver::SetUp;
-use receiver::setting_up::setup;
+use receiver_setup::Opening;
+use receiver_setup::setup;
 use receiver_state::Answer;
 use receiver_state::Receiver;
 use receiver_state::sides::channel_of;
@@ -128,7 +128,7 @@ fn answer_word(answer: Answer) -> u32 {
 }
 
 // A setup with these estimates on one channel, and zeros on the other.
-fn set_up(side: Side, z: Sizes, e: Estimates, fs: &[f32], us: &mut [u32]) -> SetUp {
+fn set_up(side: Side, z: Sizes, e: Estimates, fs: &[f32], us: &mut [u32]) -> Opening {
     let zeros = estimates_of(&[]);
     let mut a = e;
     let mut b = zeros;
@@ -144,8 +144,8 @@ fn set_up(side: Side, z: Sizes, e: Estimates, fs: &[f32], us: &mut [u32]) -> Set
 fn with_estimates(side: Side, z: Sizes, e: Estimates, fs: &[f32], us: &mut [u32]) -> Receiver {
     let zeros = estimates_of(&[]);
     match set_up(side, z, zeros, fs, us) {
-        SetUp::Refused(_) => no_receiver(),
-        SetUp::Ready(r) => with_channel(r, side, Channel::new(e)),
+        Opening::Refused(_) => no_receiver(),
+        Opening::Ready(r) => with_channel(r, side, Channel::new(e)),
     }
 }
 
@@ -155,8 +155,8 @@ pub(crate) fn begin(s: Session, fs: &[f32], us: &mut [u32], words: &[u32]) -> Se
     let z = sizes_of(words);
     let e = estimates_of(words);
     match set_up(side, z, e, fs, us) {
-        SetUp::Refused(n) => called(s, with_estimates(side, z, e, fs, us), n, word(words, 0)),
-        SetUp::Ready(r) => called(s, r, ACCEPTED, word(words, 0)),
+        Opening::Refused(n) => called(s, with_estimates(side, z, e, fs, us), n, word(words, 0)),
+        Opening::Ready(r) => called(s, r, ACCEPTED, word(words, 0)),
     }
 }
 

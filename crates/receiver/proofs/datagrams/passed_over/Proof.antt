@@ -1,4 +1,6 @@
 -- `receiver::datagrams::passed_over` meets its contract. Assumes nothing.
+use mathlib.Core.Path.{ap}
+use native.Mathlib.Omega.{arith}
 use Rattle.jitter_buffer.proofs.HeldKept.{WordsFit}
 use Rattle.receiver.proofs.DatagramCalls.{bytes-are, incoming-fits, passed-called}
 use Rattle.receiver.proofs.datagrams.passed_over.Statement.{statement}
@@ -14,7 +16,7 @@ count-call-requires : tie.Need-count-call-requires
 count-call-requires c κs =
     let s = c .before .before .before .before .before .before in
     let g = s .args in
-    rw (c .count-header .ensures) (s .pre .0 .ready .calls)
+    omega (arith, ap (λ r. r .calls) (c .count-header .ensures), s .pre .0 .ready .calls)
 
 returns : tie.Need-returns
 returns c =
@@ -22,7 +24,7 @@ returns c =
     let g = s .args in
     let words : WordsFit (g .us .now) = λ i. c .before .before .before .before .before .shared-slice-known2 .given i .fits in
     let are = bytes-are (g .bytes .now) (c .before .before .before .before .shared-slice-known3 .given) in
-    rw (c .count-call .ensures, c .before .count-header .ensures) (passed-called (g .r) (g .fs .now) (g .us .now) (g .bytes .now) (g .header) (s .pre .0) words are (s .pre .1))
+    passed-called (g .r) (g .fs .now) (g .us .now) (g .bytes .now) (g .header) (s .pre .0) words are _ _ (s .pre .1) (c .before .count-header .ensures) (c .count-call .ensures)
 
 pub passed-over-spec : {M : Type 1} → statement M
 passed-over-spec =

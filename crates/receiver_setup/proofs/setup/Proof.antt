@@ -1,9 +1,9 @@
--- `receiver::setting_up::setup` meets its contract: its questions, and then both pictures and the receiver. Assumes nothing.
+-- `receiver_setup::setup` meets its contract: its questions, and then both pictures and the receiver. Assumes nothing.
 use mathlib.Core.Path.{refl}
-use Rattle.receiver.proofs.SetupCalls.{setup-refused, setup-opened}
+use Rattle.receiver_setup.proofs.SetupLaws.{setup-refused, setup-opened}
 use borrow.Author.Needs.{needs}
-use Rattle.receiver.proofs.setting_up.setup.Statement.{statement}
-use Rattle.receiver.proofs.setting_up.setup.Tie as tie
+use Rattle.receiver_setup.proofs.setup.Statement.{statement}
+use Rattle.receiver_setup.proofs.setup.Tie as tie
 
 setup-asked-requires : tie.Need-setup-asked-requires
 setup-asked-requires c κs = search needs

@@ -20,7 +20,7 @@ use Rattle.receiver_state.specs.declared.asking.Verdict.{Verdict}
 use Rattle.receiver_state.specs.declared.asking.Verdict.the-variants.{Yes}
 use Rattle.receiver_state.specs.View.{lentOf}
 use Rattle.receiver_state.specs.Promises.{verdictOf}
-use Rattle.receiver.specs.Promises.{modelSetup}
+use Rattle.receiver_setup.specs.Promises.{modelSetup}
 
 -- what the questions let setup take for granted
 pub record SetupReady (z : Sizes) (us : List ℕ) : Type 0 where

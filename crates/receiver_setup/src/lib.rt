@@ -1,8 +1,7 @@
 // Setup: questions 1, 2 and 5, then both pictures zeroed and a fresh receiver.
 ghost use mathlib.Core.Path.{_≡_};
-ghost use Rattle.receiver.specs.Promises.{picturesZeroed, SetupDone};
-ghost use Rattle.receiver.specs.Setup.{SetupReady, SetupAsked, FreshReceiver};
-use crate::SetUp;
+ghost use Rattle.receiver_setup.specs.Promises.{picturesZeroed, SetupDone};
+ghost use Rattle.receiver_setup.specs.Setup.{SetupReady, SetupAsked, FreshReceiver};
 use audio_metrics::AudioMetrics;
 use calls::Estimates;
 use calls::Sizes;
@@ -12,6 +11,13 @@ use receiver_state::asking::Verdict;
 use receiver_state::asking::areas_long;
 use receiver_state::asking::both_finite;
 use udp::StreamCounts;
+
+// What setup answers.
+pub enum Opening {
+    // The number of the first question that was answered with no. Nothing was changed.
+    Refused(u32),
+    Ready(Receiver),
+}
 
 // Questions 1, 2 and 5, in their order.
 fn setup_asked(z: Sizes, a: Estimates, b: Estimates, fs: &[f32], us: &[u32]) -> Verdict
@@ -65,15 +71,15 @@ fn fresh_receiver(z: Sizes, a: Estimates, b: Estimates) -> Receiver
 }
 
 // A receiver of these sizes and estimates, over areas that may hold anything. Only the u32 area is written.
-pub fn setup(z: Sizes, a: Estimates, b: Estimates, fs: &[f32], us: &mut [u32]) -> SetUp
+pub fn setup(z: Sizes, a: Estimates, b: Estimates, fs: &[f32], us: &mut [u32]) -> Opening
     ensures { λ v. ⌜ SetupDone z a b (now (fs .entry)) (now (us .entry)) v (now (us .exit)) ⌝ }
 {
     let verdict = setup_asked(z, a, b, fs, us);
     match verdict {
-        Verdict::No(n) => SetUp::Refused(n),
+        Verdict::No(n) => Opening::Refused(n),
         Verdict::Yes => {
             zero_pictures(z, us);
-            SetUp::Ready(fresh_receiver(z, a, b))
+            Opening::Ready(fresh_receiver(z, a, b))
         }
     }
 }

@@ -26,8 +26,8 @@ use Rattle.channel.proofs.Sections.{word-section-is}
 use Rattle.receiver_state.specs.declared.Receiver.{Receiver}
 use Rattle.receiver_state.specs.declared.asking.Verdict.the-variants.{Yes, No}
 use Rattle.receiver_state.specs.View.{stateOf, lentOf}
-use Rattle.receiver.specs.Promises.{modelSetup, picturesZeroed, SetupAccepted}
-use Rattle.receiver.specs.Setup.{SetupReady, SetupAsked, FreshReceiver}
+use Rattle.receiver_setup.specs.Promises.{modelSetup, picturesZeroed, SetupAccepted}
+use Rattle.receiver_setup.specs.Setup.{SetupReady, SetupAsked, FreshReceiver}
 use Rattle.receiver_state.proofs.StateQuestions.{word-area-is}
 
 -- ---- questions 1, 2 and 5

@@ -1,10 +1,10 @@
--- `receiver::setting_up::setup_asked` meets its contract: its answers are questions 1, 2 and 5, in their order. Assumes nothing.
+-- `receiver_setup::setup_asked` meets its contract: its answers are questions 1, 2 and 5, in their order. Assumes nothing.
 use mathlib.Core.Path.{sym, _∙_}
 use borrow.Author.Tests.{not-true, not-false}
-use Rattle.receiver.proofs.SetupCalls.{setup-sizes-refused, setup-areas-refused, setup-estimates-refused, setup-all-yes}
+use Rattle.receiver_setup.proofs.SetupLaws.{setup-sizes-refused, setup-areas-refused, setup-estimates-refused, setup-all-yes}
 use borrow.Author.Needs.{needs}
-use Rattle.receiver.proofs.setting_up.setup_asked.Statement.{statement}
-use Rattle.receiver.proofs.setting_up.setup_asked.Tie as tie
+use Rattle.receiver_setup.proofs.setup_asked.Statement.{statement}
+use Rattle.receiver_setup.proofs.setup_asked.Tie as tie
 
 allowed-requires : tie.Need-allowed-requires
 allowed-requires c κs = search needs

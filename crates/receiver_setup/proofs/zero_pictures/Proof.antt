@@ -1,13 +1,13 @@
--- `receiver::setting_up::zero_pictures` meets its contract. Assumes nothing.
+-- `receiver_setup::zero_pictures` meets its contract. Assumes nothing.
 use native.Mathlib.Omega.{arith}
 use Rattle.calls.specs.Views.{sizesOf}
 use Rattle.channel.proofs.Sections.{word-section-is}
 use Rattle.sizes.proofs.Bounds.{picture-bound, most-waiting-bound, word-section-bound}
 use Rattle.receiver_state.proofs.StateQuestions.{word-area-is}
-use Rattle.receiver.proofs.SetupCalls.{first-fits, both-zeroed}
+use Rattle.receiver_setup.proofs.SetupLaws.{first-fits, both-zeroed}
 use borrow.Author.Needs.{needs}
-use Rattle.receiver.proofs.setting_up.zero_pictures.Statement.{statement}
-use Rattle.receiver.proofs.setting_up.zero_pictures.Tie as tie
+use Rattle.receiver_setup.proofs.zero_pictures.Statement.{statement}
+use Rattle.receiver_setup.proofs.zero_pictures.Tie as tie
 
 word-section-requires : tie.Need-word-section-requires
 word-section-requires c κs = search needs
