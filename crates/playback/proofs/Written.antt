@@ -1,0 +1,251 @@
+-- Each way in which a step goes on: a call and the beginning of its line, values of a line, and the closing lines. Assumes nothing.
+use Prim.Native.Nat.{ℕ, _+_, _-_, _*_, _≤_, _<_, min}
+use mathlib.Core.Path.{_≡_, refl, sym, _∙_, ap}
+use mathlib.Core.Bool.{Bool, true, false, _&&_}
+use mathlib.Core.List.{List, [], _∷_, _++_, append-assoc, append-nil}
+use native.Mathlib.Omega.{arith}
+use lib.ListN.{length, take, drop}
+use lib.Dec.{leb}
+use lib.Ieee.{Float}
+use borrow.Author.Tests.{leb-true, le-leb}
+use Rattle.model.specs.Bytes.{all, part}
+use Rattle.model.specs.Framing as Framing
+use Rattle.model.specs.Receiver as Model
+use Rattle.model.specs.Receiver.{Call, State}
+use Rattle.model.specs.Sizes.{sizesAllowed}
+use Rattle.model.specs.Step.{step}
+use Rattle.model.specs.Tape.{wordsOf, callAt, foundCall, foundEnd}
+use Rattle.model.specs.Replay.{answerLine, sideOf, channelLine, incomingLine, clockLine, closingLines}
+use Rattle.model.proofs.BoolLaws.{clash, both-and, first-of-both, second-of-both}
+use Rattle.model.proofs.BytesLaws.{isByte}
+use Rattle.model.proofs.ReplaySteps.{linesFrom, lines-end, lines-step}
+use Rattle.model.proofs.TapeWalk.{CallsAt}
+use Rattle.calls.specs.Views.{modelSide, sizesOf}
+use Rattle.receiver_state.specs.declared.Receiver.{Receiver}
+use Rattle.receiver_state.specs.declared.Answer.{Answer}
+use Rattle.receiver_state.specs.declared.Answer.the-variants.{Refused, Accepted, Played, NoRow, Row}
+use Rattle.receiver_state.specs.declared.Answered.{Answered}
+use Rattle.receiver_state.specs.View.{stateOf, lentOf, answerOf}
+use Rattle.receiver_state.specs.Report.{countersIn, reportOf}
+use Rattle.replaying.specs.Acting.{samplesAsked, valuesOf, CallMade, Unchanged}
+use Rattle.replaying.specs.Printing.{valuesEnded, leftOf, leftBehind}
+use Rattle.playback.specs.declared.Doing.{Doing}
+use Rattle.playback.specs.declared.Doing.the-variants as Doing
+use Rattle.playback.specs.declared.Playback.{Playback}
+use Rattle.playback.specs.declared.Wrote.{Wrote}
+use Rattle.playback.specs.declared.facts.Facts.{Facts}
+use Rattle.playback.specs.declared.parts.Part.{Part}
+use Rattle.playback.specs.Facts.{placeOf, CallFacts}
+use Rattle.playback.specs.Parts.{partEnded, partLeft, TextPut, PartPut}
+use Rattle.playback.specs.Steps.{remaining, remainingOf, valuesHeld, stage, stepsLeft, GoesOn, StepWritten, doingAfter, CallBegun, Printed, incomingOf, clockOf, behindPart, samplesLeft, valuesLeft}
+use Rattle.playback.proofs.AnswerKinds.{Kind, rows, samples, answerKind, callKind, answer-kind, answer-allowed}
+use Rattle.playback.proofs.Walks.{call-comes, none-comes, call-moves, stage-few, moved-less, part-inside}
+
+-- ---- a call
+
+record PlayIs (c : Call) : Type 0 where
+  side : Framing.Side
+  count : ℕ
+  is : c ≡ Model.play side count
+
+play-is : (c : Call) → samples ≡ callKind c → PlayIs c
+play-is (Model.datagram bytes) e = clash (cc)
+play-is (Model.play side n) e = record { side = side; count = n; is = refl }
+play-is (Model.reset side) e = clash (cc)
+play-is (Model.set side x) e = clash (cc)
+play-is (Model.probe t1 t2 t3 t4) e = clash (cc)
+play-is (Model.oneWay receive send) e = clash (cc)
+play-is (Model.depth n counts) e = clash (cc)
+play-is (Model.transmitDepth n) e = clash (cc)
+
+record DatagramIs (c : Call) : Type 0 where
+  bytes : List ℕ
+  is : c ≡ Model.datagram bytes
+
+datagram-is : (c : Call) → rows ≡ callKind c → DatagramIs c
+datagram-is (Model.datagram bytes) e = record { bytes = bytes; is = refl }
+datagram-is (Model.play side n) e = clash (cc)
+datagram-is (Model.reset side) e = clash (cc)
+datagram-is (Model.set side x) e = clash (cc)
+datagram-is (Model.probe t1 t2 t3 t4) e = clash (cc)
+datagram-is (Model.oneWay receive send) e = clash (cc)
+datagram-is (Model.depth n counts) e = clash (cc)
+datagram-is (Model.transmitDepth n) e = clash (cc)
+
+module _ (c : Call) (r : Receiver) (fs : List Float) (us : List ℕ) (lent : List Float) (v : Answered) (fs′ : List Float) (us′ : List ℕ) (lent′ : List Float)
+    (made : CallMade c r fs us lent v fs′ us′ lent′) (next : ℕ) (facts : Facts) (known : CallFacts (sizesOf (r .sizes)) c next facts) where
+  abbrev values : List Float
+  values = valuesOf r c fs′ lent′
+
+  abbrev after : Doing
+  after = doingAfter (leftBehind (v .answer)) facts (length fs′)
+
+  -- what is left of the line is what comes next, and it lies inside of what is lent
+  record Behind (a : Answer) (d : Doing) : Type 0 where
+    text : (lines : List ℕ) (cs : List Call) (s : State) → lines ≡ linesFrom (lentOf fs′ us′) cs s → leftOf (leftBehind a) values ++ lines ≡ remaining (lentOf fs′ us′) d fs′ lent′ cs s
+    inside : valuesHeld d fs′ lent′ ≡ true
+
+  samples-behind : (taken dropped short : ℕ) → v .answer ≡ Played taken dropped short → Behind (Played taken dropped short) (Doing.Samples 0 (facts .samples))
+  unfolding remaining
+  samples-behind taken dropped short is =
+      let play = play-is c (rw is at (answer-kind (lentOf fs us) c (stateOf r fs us) (stateOf (v .receiver) fs′ us′) (answerOf (v .answer) values) (made .called .steps) (rw is tt))) in
+      let asked : facts .samples - 0 ≡ play .count = omega (arith, known .samples, ap samplesAsked (play .is)) in
+      let are : values ≡ part 0 (facts .samples - 0) lent′ = ap (λ (d : Call). valuesOf r d fs′ lent′) (play .is) ∙ rw asked in
+      record {
+        text = λ lines cs s e. rw (are, e);
+        inside = both-and (le-leb 0 (facts .samples) (omega arith)) (le-leb (facts .samples) (length lent′) (omega (arith, known .samples, made .room, made .sample-length)));
+      }
+
+  row-behind : (n : ℕ) → v .answer ≡ Row n → Behind (Row n) (doingAfter (leftBehind (Row n)) facts (length fs′))
+  unfolding remaining
+  row-behind n is =
+      let datagram = datagram-is c (rw is at (answer-kind (lentOf fs us) c (stateOf r fs us) (stateOf (v .receiver) fs′ us′) (answerOf (v .answer) values) (made .called .steps) (rw is tt))) in
+      let allowed : sizesAllowed (sizesOf (r .sizes)) ≡ true = answer-allowed (lentOf fs us) c (stateOf r fs us) (stateOf (v .receiver) fs′ us′) (answerOf (v .answer) values) (made .called .steps) (rw is tt) in
+      let place : facts .row ≡ placeOf (sizesOf (r .sizes)) c = known .row allowed in
+      let from-place : values ≡ drop (placeOf (sizesOf (r .sizes)) c) fs′ = rw (datagram .is) in
+      let are : take n values ≡ part (min (facts .row) (length fs′)) (min (facts .row) (length fs′) + min n (length fs′ - min (facts .row) (length fs′)) - min (facts .row) (length fs′)) fs′ =
+      rw (from-place, ← place) (part-inside (facts .row) n fs′) in
+      record {
+        text = λ lines cs s e. rw (are, e);
+        inside =
+            both-and (le-leb (min (facts .row) (length fs′)) (min (facts .row) (length fs′) + min n (length fs′ - min (facts .row) (length fs′))) (omega arith))
+            (le-leb (min (facts .row) (length fs′) + min n (length fs′ - min (facts .row) (length fs′))) (length fs′) (omega arith));
+      }
+
+  behind : (a : Answer) → v .answer ≡ a → Behind a (doingAfter (leftBehind a) facts (length fs′))
+  unfolding remaining
+  behind (Refused n) is = record { text = λ lines cs s e. e; inside = refl }
+  behind Accepted is = record { text = λ lines cs s e. e; inside = refl }
+  behind (Played taken dropped short) is = samples-behind taken dropped short is
+  behind NoRow is = record { text = λ lines cs s e. e; inside = refl }
+  behind (Row n) is = row-behind n is
+
+  -- ---- the step
+
+  module _ (tape : List ℕ) (are : all isByte tape ≡ true) (place : ℕ) (found : callAt tape place ≡ foundCall c next) (text text′ : List ℕ) (w : Wrote)
+      (begun : CallBegun v facts fs′ text text′ w) where
+    abbrev at : Playback
+    at = record { receiver = r; place = place; doing = Doing.Call }
+
+    abbrev lines-behind : Behind (v .answer) after
+    lines-behind = behind (v .answer) refl
+
+    goes : (cs : List Call) → CallsAt tape place cs → GoesOn tape at fs us lent (begun .piece) (w .playback) fs′ us′ lent′ cs
+    unfolding remaining
+    goes cs calls =
+        let one = call-comes c next found calls in
+        let s = stateOf r fs us in
+        let s′ = stateOf (v .receiver) fs′ us′ in
+        let left = leftOf (leftBehind (v .answer)) values in
+        let rest = linesFrom (lentOf fs us) (one .others) s′ in
+        let first : linesFrom (lentOf fs us) cs s ≡ answerLine (sideOf c) (step (lentOf fs us) c s .answer) ++ linesFrom (lentOf fs us) (one .others) (step (lentOf fs us) c s .after) =
+        ap (λ (ds : List Call). linesFrom (lentOf fs us) ds s) (one .is) ∙ lines-step (lentOf fs us) c (one .others) s in
+        let second : answerLine (sideOf c) (step (lentOf fs us) c s .answer) ++ linesFrom (lentOf fs us) (one .others) (step (lentOf fs us) c s .after) ≡ (begun .piece ++ left) ++ rest =
+        rw (made .called .steps, ← known .side, begun .line-is values) in
+        let same : rest ≡ linesFrom (lentOf fs′ us′) (one .others) s′ = rw (made .called .areas .float-length, made .called .areas .word-length) in
+        let third : left ++ rest ≡ remainingOf (w .playback) fs′ us′ lent′ (one .others) = rw (begun .behind) (lines-behind .text rest (one .others) s′ same) in
+        record {
+          left = one .others;
+          met = rw (begun .behind, known .next-place) (one .met-next);
+          lines = first ∙ second ∙ append-assoc (begun .piece) left rest ∙ ap (λ (xs : List ℕ). begun .piece ++ xs) third;
+        }
+
+    fewer : stepsLeft tape (w .playback) fs′ lent′ < stepsLeft tape at fs lent
+    unfolding stepsLeft
+    fewer =
+        let moves = call-moves tape are place c next found in
+        rw (begun .behind, ← made .called .areas .float-length, ← made .sample-length)
+        (moved-less (length (wordsOf tape)) place (facts .next) (length fs′ + length lent′) (stage after) (rw (known .next-place) (moves .0)) (rw (known .next-place) (moves .1))
+        (stage-few after fs′ lent′ (lines-behind .inside)))
+
+    pub call-written : StepWritten tape at fs us lent text w fs′ us′ lent′ text′
+    call-written =
+        record {
+          piece = begun .piece;
+          put = begun .put;
+          float-length = made .called .areas .float-length;
+          word-length = made .called .areas .word-length;
+          sample-length = made .sample-length;
+          only-calls = λ no. clash (cc);
+          goes-on = goes;
+          held = rw (begun .behind) (lines-behind .inside);
+          less = fewer;
+        }
+
+-- ---- other pieces: the receiver and what is lent stay
+
+module _ (tape : List ℕ) (w : Playback) (fs : List Float) (us : List ℕ) (lent : List Float) (text text′ : List ℕ) where
+  abbrev from-here : Doing → List Call → List ℕ
+  from-here d cs = remaining (lentOf fs us) d fs lent cs (stateOf (w .receiver) fs us)
+
+  pub printed-written : (piece : List ℕ) (d : Doing) (v : Wrote) → Printed w piece d text text′ v
+      → ((cs : List Call) → CallsAt tape (w .place) cs → from-here (w .doing) cs ≡ piece ++ from-here d cs) → valuesHeld d fs lent ≡ true → stage d < stage (w .doing)
+      → StepWritten tape w fs us lent text v fs us lent text′
+  unfolding stepsLeft
+  printed-written piece d v printed goes held few =
+      record {
+        piece = piece;
+        put = printed .put;
+        float-length = refl;
+        word-length = refl;
+        sample-length = refl;
+        only-calls = λ no. (refl, refl, refl);
+        goes-on = λ cs calls. record { left = cs; met = rw (printed .behind) calls; lines = rw (printed .behind) (goes cs calls) };
+        held = rw (printed .behind) held;
+        less = rw (printed .behind) (omega (arith, few));
+      }
+
+  -- ---- the closing lines
+
+  pub line-a-written : (v : Wrote) → w .doing ≡ Doing.Call → callAt tape (w .place) ≡ foundEnd → Printed w (channelLine Framing.A (countersIn (reportOf (w .receiver) .a))) Doing.LineB text text′ v
+      → StepWritten tape w fs us lent text v fs us lent text′
+  unfolding remaining closingLines
+  line-a-written v doing found printed =
+      printed-written _ Doing.LineB v printed (λ cs calls. rw (doing, none-comes found calls) (lines-end (lentOf fs us) (stateOf (w .receiver) fs us))) refl (rw doing (omega arith))
+
+  pub line-b-written : (v : Wrote) → w .doing ≡ Doing.LineB → Printed w (channelLine Framing.B (countersIn (reportOf (w .receiver) .b))) Doing.LineI text text′ v
+      → StepWritten tape w fs us lent text v fs us lent text′
+  unfolding remaining
+  line-b-written v doing printed = printed-written _ Doing.LineI v printed (λ cs calls. rw doing) refl (rw doing (omega arith))
+
+  pub line-i-written : (v : Wrote) → w .doing ≡ Doing.LineI → Printed w (incomingOf (reportOf (w .receiver))) Doing.LineC text text′ v
+      → StepWritten tape w fs us lent text v fs us lent text′
+  unfolding remaining incomingLine
+  line-i-written v doing printed = printed-written _ Doing.LineC v printed (λ cs calls. rw doing) refl (rw doing (omega arith))
+
+  pub line-c-written : (v : Wrote) → w .doing ≡ Doing.LineC → Printed w (clockOf (reportOf (w .receiver))) Doing.Done text text′ v
+      → StepWritten tape w fs us lent text v fs us lent text′
+  unfolding remaining clockLine
+  line-c-written v doing printed = printed-written _ Doing.Done v printed (λ cs calls. rw doing (sym (append-nil _))) refl (rw doing (omega arith))
+
+  -- ---- values of a line
+
+  abbrev behind-part : Part → Doing → Wrote
+  behind-part p d = record { playback = record { receiver = w .receiver; place = w .place; doing = d }; bytes = p .bytes }
+
+  module _ (from end : ℕ) (p : Part) where
+    pub samples-written : w .doing ≡ Doing.Samples from end → end ≤ length lent → PartPut lent from end text text′ p
+        → StepWritten tape w fs us lent text (behind-part p (samplesLeft p end)) fs us lent text′
+    unfolding remaining
+    samples-written doing inside put = go (p .ended) refl
+      where
+        go : (e : Bool) → p .ended ≡ e → StepWritten tape w fs us lent text (behind-part p (samplesLeft p end)) fs us lent text′
+        go true ended =
+            printed-written (put .text) (samplesLeft p end) (behind-part p (samplesLeft p end)) (record { put = put .put; behind = refl }) (λ cs calls. rw (doing, put .line, ended) (append-assoc (put .text) [] (linesFrom (lentOf fs us) cs (stateOf (w .receiver) fs us)))) (rw ended) (rw (doing, ended) (omega arith))
+        go false ended =
+            printed-written (put .text) (samplesLeft p end) (behind-part p (samplesLeft p end)) (record { put = put .put; behind = refl }) (λ cs calls. rw (doing, put .line, ended) (append-assoc (put .text) (partEnded (p .from) end lent) (linesFrom (lentOf fs us) cs (stateOf (w .receiver) fs us))))
+            (rw ended (both-and (le-leb (p .from) end (put .inside)) (le-leb end (length lent) inside)))
+            (rw (doing, ended) (omega (arith, put .inside, put .further ended)))
+
+    pub values-written : w .doing ≡ Doing.Values from end → end ≤ length fs → PartPut fs from end text text′ p
+        → StepWritten tape w fs us lent text (behind-part p (valuesLeft p end)) fs us lent text′
+    unfolding remaining
+    values-written doing inside put = go (p .ended) refl
+      where
+        go : (e : Bool) → p .ended ≡ e → StepWritten tape w fs us lent text (behind-part p (valuesLeft p end)) fs us lent text′
+        go true ended =
+            printed-written (put .text) (valuesLeft p end) (behind-part p (valuesLeft p end)) (record { put = put .put; behind = refl }) (λ cs calls. rw (doing, put .line, ended) (append-assoc (put .text) [] (linesFrom (lentOf fs us) cs (stateOf (w .receiver) fs us)))) (rw ended) (rw (doing, ended) (omega arith))
+        go false ended =
+            printed-written (put .text) (valuesLeft p end) (behind-part p (valuesLeft p end)) (record { put = put .put; behind = refl }) (λ cs calls. rw (doing, put .line, ended) (append-assoc (put .text) (partEnded (p .from) end fs) (linesFrom (lentOf fs us) cs (stateOf (w .receiver) fs us))))
+            (rw ended (both-and (le-leb (p .from) end (put .inside)) (le-leb end (length fs) inside)))
+            (rw (doing, ended) (omega (arith, put .inside, put .further ended)))

@@ -1,0 +1,4 @@
+pub mod Facts
+pub mod Parts
+pub mod Steps
+pub mod Chains
