@@ -4,13 +4,15 @@
 #![allow(warnings)]
 include!("rigflow.rs");
 mod original;
+mod questions;
 mod random;
 mod receiver_side;
 mod udp_sender;
 
 use audio::jitter_buffer::JitterBuffer;
+use questions::{Call, Setup, Sizes};
 use random::Random;
-use receiver_side::{Call, Ours, Setup, Sizes, WORDS};
+use receiver_side::{Ours, WORDS};
 use udp_sender::header;
 
 struct Session {

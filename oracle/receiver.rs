@@ -4,16 +4,22 @@
 // Arguments: a seed, the number of sessions, and their sizes: small, set or largest. See receiver.sh.
 #![allow(warnings)]
 include!("rigflow.rs");
+mod caller;
 mod original;
+mod original_clock;
+mod questions;
 mod random;
 mod receiver_side;
 mod udp_sender;
 
 use audio_metrics::AudioMetrics;
+use caller::Caller;
 use original::{Original, Settings, FIRST_SETTINGS};
+use original_clock::{clock_words, pattern};
+use questions::{setup_verdict, Call, Setup, Sizes, BOUND};
 use random::Random;
-use receiver_side::{setup_verdict, Call, Ours, Parts, Setup, Sizes, BOUND, CALLS, CLAUSES, CLOCK, DEPTH, HIGH, INCOMING, LOW, WORDS};
-use udp_sender::{header, level, not_finite, one_in, payload, pick, settings, spoil, values, Chunk, Sender, Values};
+use receiver_side::{Ours, Parts, CALLS, CLAUSES, CLOCK, INCOMING, WORDS};
+use udp_sender::{level, not_finite, one_in, pick, values, Values};
 use std::fmt::Debug;
 use ui::layout::{WATERFALL_IMAGE_HEIGHT as HEIGHT, WATERFALL_IMAGE_WIDTH as WIDTH};
 
@@ -46,48 +52,14 @@ struct Session {
     clock_words: [u64; 14],
     // the samples that plays found short, since reset
     filled: [u64; 2],
-    sender: [Sender; 2],
+    caller: Caller,
     settings: [Settings; 2],
-    // of the streams 1 to 4, and the last ones of 1 and 2
-    sequence: [u32; 4],
+    // the last sequences of the streams 1 and 2
     last: [Option<u32>; 2],
 }
 
 fn same(a: f32, b: f32) -> bool {
     a.to_bits() == b.to_bits() || a.is_nan() && b.is_nan()
-}
-
-fn pattern(x: f32) -> u64 {
-    if x.is_nan() { 0x7fc0_0000 } else { x.to_bits() as u64 }
-}
-
-// a number that the original keeps and no reading shows, in the original as text
-fn kept(text: &str, name: &str) -> u64 {
-    let at = text.find(&format!(" {name}: ")).unwrap() + name.len() + 3;
-    text[at..].split([',', ' ']).next().unwrap().parse::<i64>().unwrap() as u64
-}
-
-fn clock_words(m: &AudioMetrics) -> [u64; 14] {
-    let text = format!("{m:?}");
-    let timing = m.clock_offset_ms().is_some() as u64;
-    let one_way = m.rx_one_way_ms().is_some() as u64;
-    let there = |flag: u64, name: &str| if flag == 1 { kept(&text, name) } else { 0 };
-    [
-        timing,
-        there(timing, "offset_ns"),
-        there(timing, "rtt_ns"),
-        there(timing, "min_rtt_ns"),
-        one_way,
-        there(one_way, "one_way_ns"),
-        text.contains("have_jitter: true") as u64,
-        pattern(m.jitter_ms()),
-        pattern(m.jitter_peak_ms()),
-        m.conceals(),
-        m.late(),
-        m.overflow(),
-        m.resyncs(),
-        pattern(m.tx_ring_peak_ms()),
-    ]
 }
 
 // a real set's, the largest, or small with the limits of each size among them
@@ -152,12 +124,11 @@ fn hand_in_estimates(r: &mut Random, o: &mut Ours, estimates: &mut [f32; 6], see
 impl Session {
     fn new(r: &mut Random, number: usize, of: &str, seen: &mut Seen) -> Session {
         let mut setup = Setup { sizes: sizes(r, of), estimates: std::array::from_fn(|_| estimate(r)) };
-        let [packet, target, max, bins, ..] = setup.sizes;
+        let [packet, target, max, ..] = setup.sizes;
         let mut ours = set_up(r, &setup);
         if one_in(r, 6) {
             hand_in_estimates(r, &mut ours, &mut setup.estimates, seen);
         }
-        let near_the_wrap = one_in(r, 4);
         let s = Session {
             number,
             call: 0,
@@ -167,9 +138,8 @@ impl Session {
             clock: AudioMetrics::default(),
             clock_words: clock_words(&AudioMetrics::default()),
             filled: [0; 2],
-            sender: [Sender::new(r, bins), Sender::new(r, bins)],
+            caller: Caller::new(r, setup.sizes),
             settings: [FIRST_SETTINGS; 2],
-            sequence: std::array::from_fn(|_| if near_the_wrap { u32::MAX - r.below(30) as u32 } else { r.below(1000) as u32 }),
             last: [None; 2],
         };
         s.everything(&"setup");
@@ -283,143 +253,8 @@ impl Session {
 
     // ---- calls
 
-    fn sequence(&mut self, r: &mut Random, stream: u8) -> u32 {
-        let next = &mut self.sequence[stream as usize - 1];
-        match r.below(12) {
-            0 => return next.wrapping_sub(1 + r.below(12) as u32),
-            1 => return next.wrapping_add(r.below(12) as u32),
-            2 => *next = next.wrapping_add(r.below(8) as u32),
-            3 if one_in(r, 30) => *next = r.next() as u32,
-            _ => {}
-        }
-        *next = next.wrapping_add(1);
-        next.wrapping_sub(1)
-    }
-
-    fn audio(&mut self, r: &mut Random) -> Vec<u8> {
-        let stream = pick(r, &[1, 3]);
-        let sequence = self.sequence(r, stream);
-        let version = 1 + r.below(2) as u8;
-        let mut d = header(r, version, stream, sequence);
-        if version == 2 {
-            d.extend(r.next().to_be_bytes());
-        }
-        let bytes = 2 * self.ours.sizes().0[0];
-        let bytes = if one_in(r, 12) { r.below(bytes as u64 + 4) as usize } else { bytes };
-        let edges = one_in(r, 4);
-        d.extend((0..bytes).map(|_| if edges { pick(r, &[0, 0xff, 0x80, 0x7f]) } else { (r.next() >> 32) as u8 }));
-        if one_in(r, 60) {
-            d.truncate(16 + r.below(10) as usize);
-        }
-        d
-    }
-
-    fn chunk(&mut self, r: &mut Random, of: Values) -> Vec<u8> {
-        let channel = r.below(2) as usize;
-        let stream = 2 + 2 * channel as u8;
-        let sequence = self.sequence(r, stream);
-        let mut chunk = self.sender[channel].next(r);
-        let mut p = payload(r, chunk, of);
-        spoil(r, &mut chunk, &mut p);
-        let version = 1 + r.below(2) as u8;
-        let mut d = header(r, version, stream, sequence);
-        d.extend(&p);
-        d
-    }
-
-    // of another type, of a header that is not valid, too short, too long, or of a total above bins
-    fn odd_datagram(&mut self, r: &mut Random) -> Vec<u8> {
-        let mut d = if one_in(r, 2) { self.audio(r) } else { self.chunk(r, Values::Levels) };
-        match r.below(6) {
-            0 => d[3] = pick(r, &[0, 5, 12, 13, 255]),
-            1 => d[r.below(2) as usize] ^= 1 << r.below(8),
-            2 => d[2] = pick(r, &[0, 3, 255]),
-            3 => d.truncate(r.below(16) as usize),
-            4 => d.resize(65_535 + r.below(3) as usize, 0),
-            _ => {
-                let channel = r.below(2) as usize;
-                d = header(r, 1, 2 + 2 * channel as u8, 0);
-                let most = if one_in(r, 2) { 3 } else { 65_535 };
-                let total = (self.ours.sizes().0[3] + 1 + r.below(most) as usize).min(65_535);
-                let number = self.sender[channel].number;
-                d.extend(payload(r, Chunk { number, total, first: 0, n: 1 }, Values::Levels));
-                d.extend(&[1, 2, 3][..r.below(4) as usize]);
-            }
-        }
-        d
-    }
-
-    fn probe(&self, r: &mut Random) -> [u64; 4] {
-        let t1 = if one_in(r, 3) { r.next() } else { 1_700_000_000_000_000_000 + (r.next() >> 20) };
-        let offset = match r.below(6) {
-            0 => r.next(),
-            1 => (BOUND as u64).wrapping_add(r.below(5)).wrapping_sub(2),
-            2 => (-BOUND as u64).wrapping_add(r.below(5)).wrapping_sub(2),
-            _ => r.below(4_000_000_000).wrapping_sub(2_000_000_000),
-        };
-        let trip = match r.below(8) {
-            0 => r.next() >> r.below(64),
-            1 => (BOUND as u64).wrapping_add(r.below(5)).wrapping_sub(2),
-            2 => r.below(5).wrapping_sub(2),
-            _ => r.below(60_000_000),
-        };
-        let [there, stay] = [r.below(trip.min(1 << 40) + 1), r.below(1000)];
-        let t2 = t1.wrapping_add(offset).wrapping_add(there);
-        [t1, t2, t2.wrapping_add(stay), t1.wrapping_add(trip).wrapping_add(stay)]
-    }
-
-    fn times(&self, r: &mut Random) -> (u64, u64) {
-        let send = if one_in(r, 3) { r.next() } else { 1_700_000_000_000_000_000 + (r.next() >> 20) };
-        let delay = match r.below(5) {
-            0 => LOW + r.below(5) as i64 - 2,
-            1 => HIGH + r.below(5) as i64 - 2,
-            2 => r.next() as i64,
-            _ => r.below(50_000_000) as i64,
-        };
-        (send.wrapping_add(delay as u64).wrapping_sub(self.ours.words[CLOCK + 1]), send)
-    }
-
-    fn depth(&self, r: &mut Random) -> usize {
-        match r.below(8) {
-            0 => 0,
-            1 => DEPTH - r.below(3) as usize,
-            2 => DEPTH + 1 + r.below(3) as usize,
-            3 => r.next() as usize,
-            _ => r.below(48_000) as usize,
-        }
-    }
-
     fn next_call(&mut self, r: &mut Random, of: Values) -> Call {
-        let side = r.below(2) as usize;
-        match r.below(40) {
-            0..=13 => Call::Datagram(self.chunk(r, of)),
-            14..=20 => Call::Datagram(self.audio(r)),
-            21 => Call::Datagram(self.odd_datagram(r)),
-            22..=26 => {
-                let n = r.below(3 * self.ours.sizes().0[0] as u64 + 3) as usize;
-                Call::Play(side, if one_in(r, 200) { 65_534 + r.below(3) as usize } else { n })
-            }
-            27 if one_in(r, 3) => Call::Reset(side),
-            27..=30 => {
-                let (new, mut s) = (settings(r), self.settings[side]);
-                match r.below(8) {
-                    0 => s.adaptive = new.adaptive,
-                    1 => s.top = new.top,
-                    2 => s.range = new.range,
-                    3 => s.zoom = new.zoom,
-                    4 => s.smoothing = new.smoothing,
-                    _ => s = new,
-                }
-                Call::Set(side, s)
-            }
-            31..=33 => Call::Probe(self.probe(r)),
-            34..=35 => {
-                let (receive, send) = self.times(r);
-                Call::OneWay(receive, send)
-            }
-            36..=37 => Call::Depth(self.depth(r), std::array::from_fn(|_| r.next() >> r.below(64))),
-            _ => Call::TransmitDepth(self.depth(r)),
-        }
+        self.caller.next(r, of, &self.settings, self.ours.words[CLOCK + 1])
     }
 
     // one call on both sides, and everything compared
@@ -567,9 +402,9 @@ impl Session {
         for _ in 0..1 + r.below(3) {
             self.change(r, &mut o);
         }
-        let sequence = self.sequence;
+        let sequence = self.caller.sequence;
         let c = self.next_call(r, Values::Levels);
-        self.sequence = sequence;
+        self.caller.sequence = sequence;
         let verdict = o.verdict(&c);
         let before = o.clone();
         let name = ("a changed state", &before.words, &c);
@@ -600,9 +435,9 @@ impl Session {
     // a state or an answer one word short
     fn short_words(&mut self, r: &mut Random, seen: &mut Seen) {
         let mut o = self.ours.clone();
-        let sequence = self.sequence;
+        let sequence = self.caller.sequence;
         let c = self.next_call(r, Values::Levels);
-        self.sequence = sequence;
+        self.caller.sequence = sequence;
         let mut out = vec![2.0; if let Call::Play(_, n) = c { n } else { 0 }];
         let mut answer = vec![9; 4];
         if one_in(r, 2) {

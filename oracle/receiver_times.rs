@@ -3,12 +3,14 @@
 #![allow(warnings)]
 include!("rigflow.rs");
 mod original;
+mod questions;
 mod random;
 mod receiver_side;
 
 use original::{Original, Settings};
+use questions::{Call, Setup, Sizes};
 use random::Random;
-use receiver_side::{Call, Ours, Setup, Sizes, WORDS};
+use receiver_side::{Ours, WORDS};
 use std::time::{Duration, Instant};
 use ui::layout::{WATERFALL_IMAGE_HEIGHT as HEIGHT, WATERFALL_IMAGE_WIDTH as WIDTH};
 
