@@ -35,7 +35,7 @@ impl Caller {
         next.wrapping_sub(1)
     }
 
-    fn audio(&mut self, r: &mut Random) -> Vec<u8> {
+    pub fn audio(&mut self, r: &mut Random) -> Vec<u8> {
         let stream = pick(r, &[1, 3]);
         let sequence = self.sequence(r, stream);
         let version = 1 + r.below(2) as u8;
@@ -53,7 +53,7 @@ impl Caller {
         d
     }
 
-    fn chunk(&mut self, r: &mut Random, of: Values) -> Vec<u8> {
+    pub fn chunk(&mut self, r: &mut Random, of: Values) -> Vec<u8> {
         let channel = r.below(2) as usize;
         let stream = 2 + 2 * channel as u8;
         let sequence = self.sequence(r, stream);
@@ -67,7 +67,7 @@ impl Caller {
     }
 
     // of another type, of a header that is not valid, too short, too long, or of a total above bins
-    fn odd_datagram(&mut self, r: &mut Random) -> Vec<u8> {
+    pub fn odd_datagram(&mut self, r: &mut Random) -> Vec<u8> {
         let mut d = if one_in(r, 2) { self.audio(r) } else { self.chunk(r, Values::Levels) };
         match r.below(6) {
             0 => d[3] = pick(r, &[0, 5, 12, 13, 255]),

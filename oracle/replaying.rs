@@ -1,0 +1,222 @@
+// What a replay prints for a tape: the tape by the second reader, the questions by their second writing, the lines written
+// here, and everything else by the original.
+use crate::audio::jitter_buffer::JitterBuffer;
+use crate::audio_metrics::AudioMetrics;
+use crate::net::udp_framing::clock_offset_rtt;
+use crate::original::{Original, Settings};
+use crate::original_clock::clock_words;
+use crate::questions::{own_verdict, setup_verdict, Call, Setup, Sizes};
+use crate::tape_words::{Call as Taped, Tape};
+use std::fmt::Write;
+
+// the lengths of the areas, and the most bytes of a tape
+pub const AREA: usize = 16_384;
+pub const MOST_BYTES: usize = 65_536;
+
+const LETTERS: [char; 2] = ['A', 'B'];
+
+// What a channel's buffer was given since its reset.
+enum Given {
+    Datagram(Vec<u8>),
+    Play(usize),
+}
+
+struct Session {
+    sizes: Sizes,
+    original: Original,
+    // The same datagrams at smoothing 0, so that its smoothing buffer is the last completed row. Each play is one of no
+    // samples here first, which tells what is dropped.
+    plain: Original,
+    clock: AudioMetrics,
+    given: [Vec<Given>; 2],
+    // the samples that plays found short, since the reset
+    short: [usize; 2],
+    text: String,
+}
+
+// How many samples leave a buffer at a play, and the samples.
+fn pop(j: &mut JitterBuffer, packet: usize, n: usize) -> (usize, Vec<f32>) {
+    let (before, concealed) = (j.buffered_samples(), j.packets_missing_concealed);
+    let mut out = vec![1.0; n];
+    j.pop_samples(&mut out);
+    let made = packet * (j.packets_missing_concealed - concealed) as usize;
+    (before + made - j.buffered_samples(), out)
+}
+
+fn buffers(z: Sizes, estimates: [f32; 6]) -> Original {
+    let [packet, target, max, ..] = z.0;
+    Original::new(packet, target, max, estimates)
+}
+
+impl Session {
+    fn new(s: &Setup) -> Session {
+        let sizes = Sizes(s.sizes);
+        Session {
+            sizes,
+            original: buffers(sizes, s.estimates),
+            plain: buffers(sizes, s.estimates),
+            clock: AudioMetrics::default(),
+            given: [vec![], vec![]],
+            short: [0; 2],
+            text: String::new(),
+        }
+    }
+
+    fn call(&mut self, c: &Call) {
+        if let Some(number) = own_verdict(self.sizes, c) {
+            writeln!(self.text, "X {number}").unwrap();
+            return;
+        }
+        match c {
+            Call::Datagram(d) => self.datagram(d),
+            Call::Play(side, n) => self.play(*side, *n),
+            Call::Reset(side) => self.reset(*side),
+            Call::Set(side, s) => self.original.set(*side, *s),
+            Call::Probe([t1, t2, t3, t4]) => {
+                let (offset, rtt) = clock_offset_rtt(*t1, *t2, *t3, *t4);
+                self.clock.record_probe(offset, rtt);
+            }
+            Call::OneWay(receive, send) => self.clock.record_audio_one_way(*receive, *send),
+            Call::Depth(n, k) => self.clock.publish_jitter(*n, k[0], k[1], k[2], k[3]),
+            Call::TransmitDepth(n) => self.clock.note_tx_ring(*n),
+        }
+    }
+
+    fn datagram(&mut self, d: &[u8]) {
+        self.plain.datagram(d);
+        match d[3] {
+            1 | 3 => {
+                self.original.datagram(d);
+                self.given[d[3] as usize / 2].push(Given::Datagram(d.to_vec()));
+            }
+            2 | 4 => {
+                let side = d[3] as usize / 2 - 1;
+                if self.original.draws(side, d) {
+                    write!(self.text, "W {}", LETTERS[side]).unwrap();
+                    line_of(&mut self.text, &self.plain.smooth[side]);
+                }
+            }
+            _ => self.original.datagram(d),
+        }
+    }
+
+    fn play(&mut self, side: usize, n: usize) {
+        let packet = self.sizes.0[0];
+        let dropped = self.dropped(side);
+        let (gone, samples) = pop(&mut self.original.jitter[side].lock().unwrap(), packet, n);
+        pop(&mut self.plain.jitter[side].lock().unwrap(), packet, n);
+        self.given[side].push(Given::Play(n));
+        let taken = gone - dropped;
+        let short = n - taken;
+        self.short[side] += short;
+        write!(self.text, "P {} {taken} {dropped} {short}", LETTERS[side]).unwrap();
+        line_of(&mut self.text, &samples);
+    }
+
+    // What a play drops: a play of no samples drops as many, and takes none. Where it dropped any, the buffer is made anew
+    // from what it was given.
+    fn dropped(&mut self, side: usize) -> usize {
+        let packet = self.sizes.0[0];
+        let (dropped, _) = pop(&mut self.plain.jitter[side].lock().unwrap(), packet, 0);
+        if dropped > 0 {
+            let mut again = buffers(self.sizes, [0.0; 6]);
+            for g in &self.given[side] {
+                match g {
+                    Given::Datagram(d) => again.datagram(d),
+                    Given::Play(n) => drop(pop(&mut again.jitter[side].lock().unwrap(), packet, *n)),
+                }
+            }
+            self.plain.jitter[side] = again.jitter[side].clone();
+        }
+        dropped
+    }
+
+    fn reset(&mut self, side: usize) {
+        self.original.jitter[side].lock().unwrap().reset();
+        self.plain.jitter[side].lock().unwrap().reset();
+        self.given[side].clear();
+        self.short[side] = 0;
+    }
+
+    fn closing(&mut self) {
+        for side in 0..2 {
+            let j = self.original.jitter[side].lock().unwrap();
+            let filled = self.short[side] as u64 + self.sizes.0[0] as u64 * j.packets_missing_concealed;
+            let numbers = [
+                j.packets_received,
+                j.packets_inserted,
+                j.packets_missing_concealed,
+                j.packets_dropped_late,
+                j.packets_dropped_overflow,
+                j.packets_dropped_invalid_size,
+                j.resync_count,
+                filled,
+            ];
+            writeln!(self.text, "{} {}", LETTERS[side], numbers.map(|n| n.to_string()).join(" ")).unwrap();
+        }
+        let s = self.original.stats.lock().unwrap();
+        let numbers = [
+            s.incoming_packets,
+            s.audio_packets,
+            s.waterfall_packets,
+            s.dropped_audio_packets,
+            s.dropped_waterfall_packets,
+            s.late_audio_packets,
+            s.late_waterfall_packets,
+        ];
+        writeln!(self.text, "I {}", numbers.map(|n| n.to_string()).join(" ")).unwrap();
+        let w = clock_words(&self.clock);
+        let or_dash = |there: u64, n: u64| if there == 1 { (n as i64).to_string() } else { "-".into() };
+        writeln!(self.text, "C {} {} {}", or_dash(w[0], w[1]), or_dash(w[0], w[2]), or_dash(w[4], w[5])).unwrap();
+    }
+}
+
+// bits in hex, each after a space, and the end of the line
+fn line_of(text: &mut String, xs: &[f32]) {
+    for x in xs {
+        write!(text, " {:08x}", x.to_bits()).unwrap();
+    }
+    text.push('\n');
+}
+
+// a tape's words as a setup
+fn setup_of(words: &[u32; 12]) -> Setup {
+    Setup { sizes: std::array::from_fn(|i| words[i] as usize), estimates: std::array::from_fn(|i| f32::from_bits(words[6 + i])) }
+}
+
+// a call of a tape as one of a receiver
+fn call_of(c: Taped) -> Call {
+    match c {
+        Taped::Datagram(d) => Call::Datagram(d),
+        Taped::Play(side, n) => Call::Play(side as usize, n as usize),
+        Taped::Reset(side) => Call::Reset(side as usize),
+        Taped::Set(side, adaptive, x) => {
+            let [top, range, zoom, smoothing] = x.map(f32::from_bits);
+            Call::Set(side as usize, Settings { adaptive, top, range, zoom, smoothing })
+        }
+        Taped::Probe(t) => Call::Probe(t),
+        Taped::OneWay([receive, send]) => Call::OneWay(receive, send),
+        Taped::Depth(n, k) => Call::Depth(n as usize, k),
+        Taped::Transmit(n) => Call::TransmitDepth(n as usize),
+    }
+}
+
+pub fn replay(tape: &[u8]) -> String {
+    if tape.len() > MOST_BYTES {
+        return format!("X 11 {}\n", MOST_BYTES / 4);
+    }
+    let (words, calls) = match (Tape { bytes: tape }).read() {
+        Ok(read) => read,
+        Err(place) => return format!("X 11 {place}\n"),
+    };
+    let setup = setup_of(&words);
+    if let Some(number) = setup_verdict(&setup, AREA, AREA) {
+        return format!("X {number}\n");
+    }
+    let mut session = Session::new(&setup);
+    for c in calls {
+        session.call(&call_of(c));
+    }
+    session.closing();
+    session.text
+}
