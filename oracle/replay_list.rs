@@ -1,6 +1,6 @@
 // Writes the fixed list of tapes with what a replay around the original prints for each, and says what the list covers.
-//   replay_list FILE
-// See replay_list.sh.
+//   replay_list FILE EXAMPLES
+// EXAMPLES is the folder of the example session. See replay_list.sh.
 #![allow(warnings)]
 include!("rigflow.rs");
 mod caller;
@@ -107,17 +107,33 @@ fn every_call() -> Made {
 
 type Tapes = Vec<Vec<u8>>;
 
-// document 01's worked tape, and sessions on each channel
-fn worked() -> Tapes {
-    let example = Made::new(&Setup { sizes: [2, 2, 4, 1, 1, 1], estimates: [0.0; 6] })
+// a tape that must print this
+fn known(name: &str, tape: Vec<u8>, printed: &str) -> Vec<u8> {
+    let found = replay(&tape);
+    if found != printed {
+        println!("DIFFERS: {name} prints\n{found}");
+        exit(1)
+    }
+    tape
+}
+
+fn example(folder: &str) -> Vec<u8> {
+    let read = |name: &str| {
+        std::fs::read(format!("{folder}/{name}")).unwrap_or_else(|e| {
+            eprintln!("{folder}/{name}: {e}");
+            exit(2)
+        })
+    };
+    known("the example session", read("session.tape"), &String::from_utf8_lossy(&read("session.txt")))
+}
+
+// document 01's worked tape, the example session, and sessions on each channel
+fn worked(examples: &str) -> Tapes {
+    let smallest = Made::new(&Setup { sizes: [2, 2, 4, 1, 1, 1], estimates: [0.0; 6] })
         .with(&[with([0x52, 0x53, 1, 1, 0, 0, 0, 7, 0, 0, 0, 0, 0, 0, 0, 0].to_vec(), &[0xff, 0x7f, 1, 0x80]), Play(A, 2)])
         .bytes();
     let printed = "P A 2 0 0 3f800000 bf800000\nA 1 1 0 0 0 0 0 0\nB 0 0 0 0 0 0 0 0\nI 1 1 0 0 0 0 0\nC - - -\n";
-    if example.len() != 84 || replay(&example) != printed {
-        println!("DIFFERS: the worked tape prints\n{}", replay(&example));
-        exit(1)
-    }
-    let mut all = vec![example, every_call().bytes(), tape(&[])];
+    let mut all = vec![known("the worked tape", smallest, printed), example(examples), every_call().bytes(), tape(&[])];
     for s in SIDES {
         let push = |sequence: u32, n: usize, first: i16| sound(s, 1 + (sequence % 2) as u8, sequence, n, first);
         all.extend([
@@ -434,9 +450,10 @@ fn covers(tape: &[u8], text: &str) -> Vec<String> {
 }
 
 fn main() {
-    let path = std::env::args().nth(1).expect("the file to write");
+    let args: Vec<String> = std::env::args().collect();
+    let (path, examples) = (&args[1], &args[2]);
     let groups = [
-        ("worked sessions", worked()),
+        ("worked sessions", worked(examples)),
         ("each call and its edges", calls()),
         ("the clock", clock()),
         ("headers, streams and lengths of datagrams", datagrams()),
@@ -477,7 +494,7 @@ fn main() {
         println!("NOT ENOUGH: {tapes} tapes, {} bytes, missing: {}", list.len(), missing.join("; "));
         exit(1)
     }
-    std::fs::write(&path, list).unwrap_or_else(|e| {
+    std::fs::write(path, list).unwrap_or_else(|e| {
         eprintln!("{path}: {e}");
         exit(2)
     });

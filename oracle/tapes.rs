@@ -40,7 +40,7 @@ impl Made {
         self
     }
 
-    // the words behind which the end stands
+    // with the end behind the words
     pub fn bytes(&self) -> Vec<u8> {
         self.words.iter().chain(&[0]).flat_map(|w| w.to_be_bytes()).collect()
     }
