@@ -35,12 +35,12 @@ fn program(path: &str, tape: &[u8]) -> Result<Vec<u8>, String> {
 // the first line that differs, as it is here and there
 fn first_difference(expected: &str, found: &[u8]) -> String {
     let found = String::from_utf8_lossy(found).into_owned();
-    let short = |l: Option<&str>| l.map_or("no line".into(), |l| format!("'{}'", l.chars().take(200).collect::<String>()));
+    let short = |l: Option<&str>| l.map_or("no line".into(), |l| format!("{:?}", l.chars().take(200).collect::<String>()));
     let (mut e, mut f) = (expected.split_inclusive('\n'), found.split_inclusive('\n'));
     for line in 1.. {
         let (x, y) = (e.next(), f.next());
         if x != y || x.is_none() {
-            return format!("line {line}: {}, expected {}", short(y.map(str::trim_end)), short(x.map(str::trim_end)));
+            return format!("line {line}: {}, expected {}", short(y), short(x));
         }
     }
     unreachable!()
