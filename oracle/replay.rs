@@ -20,7 +20,8 @@ use std::process::{exit, Command, Stdio};
 
 // what the program prints for a tape, or why it printed nothing
 fn program(path: &str, tape: &[u8]) -> Result<Vec<u8>, String> {
-    let mut child = Command::new(path).stdin(Stdio::piped()).stdout(Stdio::piped()).spawn().map_err(|e| format!("{path}: {e}"))?;
+    let mut command = Command::new(path);
+    let mut child = command.stdin(Stdio::piped()).stdout(Stdio::piped()).stderr(Stdio::piped()).spawn().map_err(|e| format!("{path}: {e}"))?;
     // a program that has read enough of a long tape may close its input
     match child.stdin.take().unwrap().write_all(tape) {
         Err(e) if e.kind() != ErrorKind::BrokenPipe => return Err(format!("the tape could not be written: {e}")),
@@ -28,7 +29,14 @@ fn program(path: &str, tape: &[u8]) -> Result<Vec<u8>, String> {
     }
     let mut text = vec![];
     child.stdout.take().unwrap().read_to_end(&mut text).map_err(|e| e.to_string())?;
+    let mut said = String::new();
+    child.stderr.take().unwrap().read_to_string(&mut said).map_err(|e| e.to_string())?;
     let status = child.wait().map_err(|e| e.to_string())?;
+    // a tape that is too long is said on standard error, and nothing else is
+    let expected = if 65536 < tape.len() { "replay: the tape is longer than 65536 bytes\n" } else { "" };
+    if said != expected {
+        return Err(format!("it said {said:?}"));
+    }
     if status.success() { Ok(text) } else { Err(format!("it ended with {status}")) }
 }
 
