@@ -2,7 +2,7 @@
 use Prim.Native.Nat.{ℕ, _+_, _≤_, _<_}
 use mathlib.Core.Path.{_≡_, refl, sym, _∙_, ap}
 use mathlib.Core.Bool.{Bool, true, false, true≢false}
-use mathlib.Core.List.{List, [], _++_, append-assoc, append-nil}
+use mathlib.Core.List.{List, [], _∷_, _++_, append-assoc, append-nil}
 use native.Mathlib.Omega.{arith}
 use lib.ListN.{length, take, drop, length-append}
 use lib.Seq.{take-at}
@@ -12,6 +12,7 @@ use Rattle.model.specs.Receiver.{Call}
 use Rattle.model.specs.Tape.{callAt, foundBad}
 use Rattle.model.proofs.BoolLaws.{clash}
 use Rattle.model.proofs.TapeWalk.{CallsAt, ended, met}
+use Rattle.playback.specs.declared.Doing.{Doing}
 use Rattle.playback.specs.declared.Doing.the-variants as Doing
 use Rattle.playback.specs.declared.Playback.{Playback}
 use Rattle.playback.specs.declared.Turn.{Turn}
@@ -20,7 +21,7 @@ use Rattle.playback.specs.declared.Step.{Step}
 use Rattle.playback.specs.declared.Step.the-variants as Step
 use Rattle.playback.specs.declared.opening.Beginning.the-variants as Beginning
 use Rattle.playback.specs.Parts.{TextPut}
-use Rattle.playback.specs.Steps.{remaining, remainingOf, valuesHeld, roomFor, stepsLeft, turnsLeft, StepWritten, StepDone}
+use Rattle.playback.specs.Steps.{remaining, remainingOf, valuesHeld, roomFor, callsNow, placeNext, stepsLeft, turnsLeft, StepWritten, StepDone}
 use Rattle.playback.specs.Chains.{BegunTo, Moment, WrittenAt, Steps, here, wrote}
 
 -- what stands at the front is the text
@@ -31,6 +32,39 @@ put-front text entry exit n put = rw (put .target, put .length-is) (take-at text
 abbrev still : Moment → List Call → List ℕ
 still m cs = remainingOf (m .playback) (m .floats) (m .words) (m .samples) cs
 
+-- of the calls that a tape holds those that are left behind a step
+record GoesOn (tape : List ℕ) (m : Moment) (piece : List ℕ) (n : Moment) (cs : List Call) : Type 0 where
+  left : List Call
+  meets : CallsAt tape (n .playback .place) left
+  lines : still m cs ≡ piece ++ still n left
+
+goes-on : (tape : List ℕ) (m n : Moment) (text text′ : List ℕ) (v : Wrote) (step : WrittenAt tape m text v n text′) → n .playback ≡ v .playback
+    → (cs : List Call) → CallsAt tape (m .playback .place) cs → GoesOn tape m (step .piece) n cs
+goes-on tape m n text text′ v step behind cs calls = by-doing (m .playback .doing) refl calls
+  where
+    after : (ds : List Call) → still m (callsNow (m .playback .doing) (callAt tape (m .playback .place)) ds) ≡ step .piece ++ still n ds
+    after ds = rw behind (step .lines ds)
+
+    place-is : n .playback .place ≡ placeNext (m .playback .doing) (callAt tape (m .playback .place)) (m .playback .place)
+    place-is = rw behind (step .next-place)
+
+    on : (left : List Call) → callsNow (m .playback .doing) (callAt tape (m .playback .place)) left ≡ cs
+        → CallsAt tape (placeNext (m .playback .doing) (callAt tape (m .playback .place)) (m .playback .place)) left → GoesOn tape m (step .piece) n cs
+    on left now meets = record { left = left; meets = rw place-is meets; lines = ap (λ (ds : List Call). still m ds) (sym now) ∙ after left }
+
+    at-call : (ds : List Call) → ds ≡ cs → m .playback .doing ≡ Doing.Call → CallsAt tape (m .playback .place) ds → GoesOn tape m (step .piece) n cs
+    at-call ds same doing (ended found) = on [] (rw (doing, found) same) (rw (doing, found) (ended found))
+    at-call ds same doing (met {cs = rest} found others) = on rest (rw (doing, found) same) (rw (doing, found) others)
+
+    by-doing : (d : Doing) → m .playback .doing ≡ d → CallsAt tape (m .playback .place) cs → GoesOn tape m (step .piece) n cs
+    by-doing Doing.Call doing calls = at-call cs refl doing calls
+    by-doing (Doing.Samples from end) doing calls = on cs (rw doing) (rw doing calls)
+    by-doing (Doing.Values from end) doing calls = on cs (rw doing) (rw doing calls)
+    by-doing Doing.LineB doing calls = on cs (rw doing) (rw doing calls)
+    by-doing Doing.LineI doing calls = on cs (rw doing) (rw doing calls)
+    by-doing Doing.LineC doing calls = on cs (rw doing) (rw doing calls)
+    by-doing Doing.Done doing calls = on cs (rw doing) (rw doing calls)
+
 -- what was to be printed is what was written and what is still to be printed, by the calls that are left
 record Onward (tape : List ℕ) (m : Moment) (printed : List ℕ) (last : Moment) (cs : List Call) : Type 0 where
   left : List Call
@@ -40,10 +74,10 @@ record Onward (tape : List ℕ) (m : Moment) (printed : List ℕ) (last : Moment
 steps-onward : (tape : List ℕ) (m last : Moment) (printed : List ℕ) (cs : List Call) → Steps tape m printed last → CallsAt tape (m .playback .place) cs → Onward tape m printed last cs
 steps-onward tape m last printed cs here calls = record { left = cs; meets = calls; lines = refl }
 steps-onward tape m last printed cs (wrote {n = n} {text = text} {text′ = text′} {printed = rest} {v = v} step behind steps) calls =
-    let on = step .goes-on cs calls in
+    let on = goes-on tape m n text text′ v step behind cs calls in
     let front : take (v .bytes) text′ ≡ step .piece = put-front (step .piece) text text′ (v .bytes) (step .put) in
-    let further = steps-onward tape n last rest (on .left) steps (rw behind (on .met)) in
-    let one : still m cs ≡ take (v .bytes) text′ ++ still n (on .left) = rw (front, behind) (on .lines) in
+    let further = steps-onward tape n last rest (on .left) steps (on .meets) in
+    let one : still m cs ≡ take (v .bytes) text′ ++ still n (on .left) = rw front (on .lines) in
     record {
       left = further .left;
       meets = further .meets;

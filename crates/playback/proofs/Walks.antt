@@ -1,4 +1,4 @@
--- Which call comes next of those that a tape holds, and that it moves the place on. Assumes nothing.
+-- A call moves the tape's place on, so that only so many steps are left; and values inside of what is lent. Assumes nothing.
 use Prim.Native.Nat.{ℕ, zero, suc, _+_, _-_, _*_, _≤_, _<_, min}
 use mathlib.Core.Path.{_≡_, refl, sym, _∙_, ap}
 use mathlib.Core.Bool.{Bool, true, false, _&&_}
@@ -16,29 +16,10 @@ use Rattle.model.specs.Tape.{wordsOf, endsInPart, Found, foundCall, foundEnd, f
 use Rattle.model.proofs.BoolLaws.{by-test, clash, first-of-both, second-of-both}
 use Rattle.model.proofs.ListLaws.{all-drop}
 use Rattle.model.proofs.BytesLaws.{isByte, isWord, words-of-are-words}
-use Rattle.model.proofs.TapeWalk.{CallsAt, ended, met}
 use Rattle.tape.proofs.CheckLaws.{found-takes}
 use Rattle.playback.specs.declared.Doing.{Doing}
 use Rattle.playback.specs.declared.Doing.the-variants as Doing
 use Rattle.playback.specs.Steps.{valuesHeld, stage}
-
--- ---- the calls to come
-
-pub record CallBefore (bytes : List ℕ) (c : Call) (next : ℕ) (cs : List Call) : Type 0 where
-  pub others : List Call
-  pub is : cs ≡ c ∷ others
-  pub met-next : CallsAt bytes next others
-
-pub call-comes : {bytes : List ℕ} {place : ℕ} {cs : List Call} (c : Call) (next : ℕ) → callAt bytes place ≡ foundCall c next → CallsAt bytes place cs → CallBefore bytes c next cs
-call-comes c next found (ended none-left) = clash (cc)
-call-comes {bytes} c next found (met {next = next₁} {c = c₁} {cs = others} found₁ rest) =
-    let same-call : c₁ ≡ c = cc in
-    let same-place : next₁ ≡ next = cc in
-    record { others = others; is = rw same-call; met-next = rw same-place at rest }
-
-pub none-comes : {bytes : List ℕ} {place : ℕ} {cs : List Call} → callAt bytes place ≡ foundEnd → CallsAt bytes place cs → cs ≡ []
-none-comes found (ended none-left) = refl
-none-comes found (met found₁ rest) = clash (cc)
 
 -- ---- the place moves on
 

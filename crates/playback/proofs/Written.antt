@@ -1,7 +1,7 @@
 -- Each way in which a step goes on: a call and the beginning of its line, values of a line, and the closing lines. Assumes nothing.
 use Prim.Native.Nat.{ℕ, _+_, _-_, _*_, _≤_, _<_, min}
 use mathlib.Core.Path.{_≡_, refl, sym, _∙_, ap}
-use mathlib.Core.Bool.{Bool, true, false, _&&_}
+use mathlib.Core.Bool.{Bool, true, false, _&&_, true≢false}
 use mathlib.Core.List.{List, [], _∷_, _++_, append-assoc, append-nil}
 use native.Mathlib.Omega.{arith}
 use lib.ListN.{length, take, drop}
@@ -19,7 +19,6 @@ use Rattle.model.specs.Replay.{answerLine, sideOf, channelLine, incomingLine, c
 use Rattle.model.proofs.BoolLaws.{clash, both-and, first-of-both, second-of-both}
 use Rattle.model.proofs.BytesLaws.{isByte}
 use Rattle.model.proofs.ReplaySteps.{linesFrom, lines-end, lines-step}
-use Rattle.model.proofs.TapeWalk.{CallsAt}
 use Rattle.calls.specs.Views.{modelSide, sizesOf}
 use Rattle.receiver_state.specs.declared.Receiver.{Receiver}
 use Rattle.receiver_state.specs.declared.Answer.{Answer}
@@ -37,9 +36,9 @@ use Rattle.playback.specs.declared.facts.Facts.{Facts}
 use Rattle.playback.specs.declared.parts.Part.{Part}
 use Rattle.playback.specs.Facts.{placeOf, CallFacts}
 use Rattle.playback.specs.Parts.{partEnded, partLeft, TextPut, PartPut}
-use Rattle.playback.specs.Steps.{remaining, remainingOf, valuesHeld, stage, stepsLeft, GoesOn, StepWritten, doingAfter, CallBegun, Printed, incomingOf, clockOf, behindPart, samplesLeft, valuesLeft}
+use Rattle.playback.specs.Steps.{remaining, remainingOf, valuesHeld, makesCall, stage, stepsLeft, callsNow, placeNext, CallDone, StepWritten, doingAfter, CallBegun, Printed, incomingOf, clockOf, behindPart, samplesLeft, valuesLeft}
 use Rattle.playback.proofs.AnswerKinds.{Kind, rows, samples, answerKind, callKind, answer-kind, answer-allowed}
-use Rattle.playback.proofs.Walks.{call-comes, none-comes, call-moves, stage-few, moved-less, part-inside}
+use Rattle.playback.proofs.Walks.{call-moves, stage-few, moved-less, part-inside}
 
 -- ---- a call
 
@@ -130,25 +129,25 @@ module _ (c : Call) (r : Receiver) (fs : List Float) (us : List ℕ) (lent : Lis
     abbrev lines-behind : Behind (v .answer) after
     lines-behind = behind (v .answer) refl
 
-    goes : (cs : List Call) → CallsAt tape place cs → GoesOn tape at fs us lent (begun .piece) (w .playback) fs′ us′ lent′ cs
+    goes : (cs : List Call) → remainingOf at fs us lent (callsNow Doing.Call (callAt tape place) cs) ≡ begun .piece ++ remainingOf (w .playback) fs′ us′ lent′ cs
     unfolding remaining
-    goes cs calls =
-        let one = call-comes c next found calls in
+    goes cs =
         let s = stateOf r fs us in
         let s′ = stateOf (v .receiver) fs′ us′ in
         let left = leftOf (leftBehind (v .answer)) values in
-        let rest = linesFrom (lentOf fs us) (one .others) s′ in
-        let first : linesFrom (lentOf fs us) cs s ≡ answerLine (sideOf c) (step (lentOf fs us) c s .answer) ++ linesFrom (lentOf fs us) (one .others) (step (lentOf fs us) c s .after) =
-        ap (λ (ds : List Call). linesFrom (lentOf fs us) ds s) (one .is) ∙ lines-step (lentOf fs us) c (one .others) s in
-        let second : answerLine (sideOf c) (step (lentOf fs us) c s .answer) ++ linesFrom (lentOf fs us) (one .others) (step (lentOf fs us) c s .after) ≡ (begun .piece ++ left) ++ rest =
+        let rest = linesFrom (lentOf fs us) cs s′ in
+        let first : linesFrom (lentOf fs us) (callsNow Doing.Call (callAt tape place) cs) s ≡ answerLine (sideOf c) (step (lentOf fs us) c s .answer) ++ linesFrom (lentOf fs us) cs (step (lentOf fs us) c s .after) =
+        rw found (lines-step (lentOf fs us) c cs s) in
+        let second : answerLine (sideOf c) (step (lentOf fs us) c s .answer) ++ linesFrom (lentOf fs us) cs (step (lentOf fs us) c s .after) ≡ (begun .piece ++ left) ++ rest =
         rw (made .called .steps, ← known .side, begun .line-is values) in
-        let same : rest ≡ linesFrom (lentOf fs′ us′) (one .others) s′ = rw (made .called .areas .float-length, made .called .areas .word-length) in
-        let third : left ++ rest ≡ remainingOf (w .playback) fs′ us′ lent′ (one .others) = rw (begun .behind) (lines-behind .text rest (one .others) s′ same) in
-        record {
-          left = one .others;
-          met = rw (begun .behind, known .next-place) (one .met-next);
-          lines = first ∙ second ∙ append-assoc (begun .piece) left rest ∙ ap (λ (xs : List ℕ). begun .piece ++ xs) third;
-        }
+        let same : rest ≡ linesFrom (lentOf fs′ us′) cs s′ = rw (made .called .areas .float-length, made .called .areas .word-length) in
+        let third : left ++ rest ≡ remainingOf (w .playback) fs′ us′ lent′ cs = rw (begun .behind) (lines-behind .text rest cs s′ same) in
+        first ∙ second ∙ append-assoc (begun .piece) left rest ∙ ap (λ (xs : List ℕ). begun .piece ++ xs) third
+
+    done : (d : Call) (n : ℕ) → callAt tape place ≡ foundCall d n → CallDone d r fs us (w .playback .receiver) fs′ us′
+    done d n is =
+        let same : c ≡ d = cc in
+        rw (← same, begun .behind) (record { answer = answerOf (v .answer) values; called = made .called })
 
     fewer : stepsLeft tape (w .playback) fs′ lent′ < stepsLeft tape at fs lent
     unfolding stepsLeft
@@ -167,7 +166,9 @@ module _ (c : Call) (r : Receiver) (fs : List Float) (us : List ℕ) (lent : Lis
           word-length = made .called .areas .word-length;
           sample-length = made .sample-length;
           only-calls = λ no. clash (cc);
-          goes-on = goes;
+          made = λ d n is there. done d n there;
+          next-place = rw (begun .behind, found) (known .next-place);
+          lines = goes;
           held = rw (begun .behind) (lines-behind .inside);
           less = fewer;
         }
@@ -179,18 +180,22 @@ module _ (tape : List ℕ) (w : Playback) (fs : List Float) (us : List ℕ) (len
   from-here d cs = remaining (lentOf fs us) d fs lent cs (stateOf (w .receiver) fs us)
 
   pub printed-written : (piece : List ℕ) (d : Doing) (v : Wrote) → Printed w piece d text text′ v
-      → ((cs : List Call) → CallsAt tape (w .place) cs → from-here (w .doing) cs ≡ piece ++ from-here d cs) → valuesHeld d fs lent ≡ true → stage d < stage (w .doing)
-      → StepWritten tape w fs us lent text v fs us lent text′
+      → ((c : Call) (next : ℕ) → makesCall (w .doing) ≡ true → callAt tape (w .place) ≡ foundCall c next → ⊥)
+      → placeNext (w .doing) (callAt tape (w .place)) (w .place) ≡ w .place
+      → ((cs : List Call) → from-here (w .doing) (callsNow (w .doing) (callAt tape (w .place)) cs) ≡ piece ++ from-here d cs)
+      → valuesHeld d fs lent ≡ true → stage d < stage (w .doing) → StepWritten tape w fs us lent text v fs us lent text′
   unfolding stepsLeft
-  printed-written piece d v printed goes held few =
+  printed-written piece d v printed no-call stays goes held few =
       record {
         piece = piece;
         put = printed .put;
         float-length = refl;
         word-length = refl;
         sample-length = refl;
-        only-calls = λ no. (refl, refl, refl);
-        goes-on = λ cs calls. record { left = cs; met = rw (printed .behind) calls; lines = rw (printed .behind) (goes cs calls) };
+        only-calls = λ none-made. (refl, refl, refl);
+        made = λ c next is there. absurd (no-call c next is there);
+        next-place = rw (printed .behind, stays);
+        lines = λ cs. rw (printed .behind) (goes cs);
         held = rw (printed .behind) held;
         less = rw (printed .behind) (omega (arith, few));
       }
@@ -201,22 +206,26 @@ module _ (tape : List ℕ) (w : Playback) (fs : List Float) (us : List ℕ) (len
       → StepWritten tape w fs us lent text v fs us lent text′
   unfolding remaining closingLines
   line-a-written v doing found printed =
-      printed-written _ Doing.LineB v printed (λ cs calls. rw (doing, none-comes found calls) (lines-end (lentOf fs us) (stateOf (w .receiver) fs us))) refl (rw doing (omega arith))
+      printed-written _ Doing.LineB v printed (λ c next is there. clash (cc)) (rw (doing, found)) (λ cs. rw (doing, found) (lines-end (lentOf fs us) (stateOf (w .receiver) fs us))) refl (rw doing (omega arith))
+
+  -- what prints makes no call
+  prints-only : (d : Doing) → makesCall d ≡ false → w .doing ≡ d → (c : Call) (next : ℕ) → makesCall (w .doing) ≡ true → callAt tape (w .place) ≡ foundCall c next → ⊥
+  prints-only d quiet doing c next is there = true≢false (sym is ∙ rw doing quiet)
 
   pub line-b-written : (v : Wrote) → w .doing ≡ Doing.LineB → Printed w (channelLine Framing.B (countersIn (reportOf (w .receiver) .b))) Doing.LineI text text′ v
       → StepWritten tape w fs us lent text v fs us lent text′
   unfolding remaining
-  line-b-written v doing printed = printed-written _ Doing.LineI v printed (λ cs calls. rw doing) refl (rw doing (omega arith))
+  line-b-written v doing printed = printed-written _ Doing.LineI v printed (prints-only Doing.LineB refl doing) (rw doing) (λ cs. rw doing) refl (rw doing (omega arith))
 
   pub line-i-written : (v : Wrote) → w .doing ≡ Doing.LineI → Printed w (incomingOf (reportOf (w .receiver))) Doing.LineC text text′ v
       → StepWritten tape w fs us lent text v fs us lent text′
   unfolding remaining incomingLine
-  line-i-written v doing printed = printed-written _ Doing.LineC v printed (λ cs calls. rw doing) refl (rw doing (omega arith))
+  line-i-written v doing printed = printed-written _ Doing.LineC v printed (prints-only Doing.LineI refl doing) (rw doing) (λ cs. rw doing) refl (rw doing (omega arith))
 
   pub line-c-written : (v : Wrote) → w .doing ≡ Doing.LineC → Printed w (clockOf (reportOf (w .receiver))) Doing.Done text text′ v
       → StepWritten tape w fs us lent text v fs us lent text′
   unfolding remaining clockLine
-  line-c-written v doing printed = printed-written _ Doing.Done v printed (λ cs calls. rw doing (sym (append-nil _))) refl (rw doing (omega arith))
+  line-c-written v doing printed = printed-written _ Doing.Done v printed (prints-only Doing.LineC refl doing) (rw doing) (λ cs. rw doing (sym (append-nil _))) refl (rw doing (omega arith))
 
   -- ---- values of a line
 
@@ -231,9 +240,9 @@ module _ (tape : List ℕ) (w : Playback) (fs : List Float) (us : List ℕ) (len
       where
         go : (e : Bool) → p .ended ≡ e → StepWritten tape w fs us lent text (behind-part p (samplesLeft p end)) fs us lent text′
         go true ended =
-            printed-written (put .text) (samplesLeft p end) (behind-part p (samplesLeft p end)) (record { put = put .put; behind = refl }) (λ cs calls. rw (doing, put .line, ended) (append-assoc (put .text) [] (linesFrom (lentOf fs us) cs (stateOf (w .receiver) fs us)))) (rw ended) (rw (doing, ended) (omega arith))
+            printed-written (put .text) (samplesLeft p end) (behind-part p (samplesLeft p end)) (record { put = put .put; behind = refl }) (prints-only (Doing.Samples from end) refl doing) (rw doing) (λ cs. rw (doing, put .line, ended) (append-assoc (put .text) [] (linesFrom (lentOf fs us) cs (stateOf (w .receiver) fs us)))) (rw ended) (rw (doing, ended) (omega arith))
         go false ended =
-            printed-written (put .text) (samplesLeft p end) (behind-part p (samplesLeft p end)) (record { put = put .put; behind = refl }) (λ cs calls. rw (doing, put .line, ended) (append-assoc (put .text) (partEnded (p .from) end lent) (linesFrom (lentOf fs us) cs (stateOf (w .receiver) fs us))))
+            printed-written (put .text) (samplesLeft p end) (behind-part p (samplesLeft p end)) (record { put = put .put; behind = refl }) (prints-only (Doing.Samples from end) refl doing) (rw doing) (λ cs. rw (doing, put .line, ended) (append-assoc (put .text) (partEnded (p .from) end lent) (linesFrom (lentOf fs us) cs (stateOf (w .receiver) fs us))))
             (rw ended (both-and (le-leb (p .from) end (put .inside)) (le-leb end (length lent) inside)))
             (rw (doing, ended) (omega (arith, put .inside, put .further ended)))
 
@@ -244,8 +253,8 @@ module _ (tape : List ℕ) (w : Playback) (fs : List Float) (us : List ℕ) (len
       where
         go : (e : Bool) → p .ended ≡ e → StepWritten tape w fs us lent text (behind-part p (valuesLeft p end)) fs us lent text′
         go true ended =
-            printed-written (put .text) (valuesLeft p end) (behind-part p (valuesLeft p end)) (record { put = put .put; behind = refl }) (λ cs calls. rw (doing, put .line, ended) (append-assoc (put .text) [] (linesFrom (lentOf fs us) cs (stateOf (w .receiver) fs us)))) (rw ended) (rw (doing, ended) (omega arith))
+            printed-written (put .text) (valuesLeft p end) (behind-part p (valuesLeft p end)) (record { put = put .put; behind = refl }) (prints-only (Doing.Values from end) refl doing) (rw doing) (λ cs. rw (doing, put .line, ended) (append-assoc (put .text) [] (linesFrom (lentOf fs us) cs (stateOf (w .receiver) fs us)))) (rw ended) (rw (doing, ended) (omega arith))
         go false ended =
-            printed-written (put .text) (valuesLeft p end) (behind-part p (valuesLeft p end)) (record { put = put .put; behind = refl }) (λ cs calls. rw (doing, put .line, ended) (append-assoc (put .text) (partEnded (p .from) end fs) (linesFrom (lentOf fs us) cs (stateOf (w .receiver) fs us))))
+            printed-written (put .text) (valuesLeft p end) (behind-part p (valuesLeft p end)) (record { put = put .put; behind = refl }) (prints-only (Doing.Values from end) refl doing) (rw doing) (λ cs. rw (doing, put .line, ended) (append-assoc (put .text) (partEnded (p .from) end fs) (linesFrom (lentOf fs us) cs (stateOf (w .receiver) fs us))))
             (rw ended (both-and (le-leb (p .from) end (put .inside)) (le-leb end (length fs) inside)))
             (rw (doing, ended) (omega (arith, put .inside, put .further ended)))

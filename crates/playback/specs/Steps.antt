@@ -2,23 +2,24 @@
 use Prim.Native.Nat.{ℕ, _+_, _-_, _*_, _≤_, _<_, min}
 use mathlib.Core.Path.{_≡_}
 use mathlib.Core.Bool.{Bool, true, false, _&&_, cond}
-use mathlib.Core.List.{List, [], _++_, map}
+use mathlib.Core.List.{List, [], _∷_, _++_, map}
 use lib.ListN.{length}
 use lib.Dec.{leb}
 use lib.Ieee.{Float}
 use Rattle.model.specs.Framing.{B}
-use Rattle.model.specs.Receiver.{Lent, Call, State}
+use Rattle.model.specs.Receiver.{Lent, Call, State, Answer}
 use Rattle.model.specs.Tape as Tape
-use Rattle.model.specs.Tape.{wordsOf, callAt, foundBad}
+use Rattle.model.specs.Tape.{wordsOf, callAt, foundCall, foundBad}
 use Rattle.model.specs.Replay.{decimal, line, answerLine, channelLine, incomingLine, clockLine}
 use Rattle.model.proofs.ReplaySteps.{linesFrom}
-use Rattle.model.proofs.TapeWalk.{CallsAt}
 use Rattle.calls.specs.Views.{modelSide, sizesOf}
 use Rattle.tape.specs.declared.Found.{Found}
 use Rattle.tape.specs.Answers.{IsFound}
+use Rattle.receiver_state.specs.declared.Receiver.{Receiver}
 use Rattle.receiver_state.specs.declared.Answered.{Answered}
 use Rattle.receiver_state.specs.declared.report.Report.{Report}
 use Rattle.receiver_state.specs.View.{stateOf, lentOf, answerOf}
+use Rattle.receiver_state.specs.Promises.{Called}
 use Rattle.receiver_state.specs.Report.{incomingNumbers, clockWords}
 use Rattle.replaying.specs.declared.printing.Left.{Left}
 use Rattle.replaying.specs.declared.printing.Left.the-variants as Left
@@ -114,12 +115,37 @@ turnsLeft tape t fs samples = cond (t .going) (1 + stepsLeft tape (t .playback) 
 
 -- ---- a step
 
--- of the calls to come those that are left, and what was to be printed is the piece and what is still to be printed
-pub record GoesOn (tape : List ℕ) (w : Playback) (fs : List Float) (us : List ℕ) (samples : List Float) (piece : List ℕ) (w′ : Playback) (fs′ : List Float) (us′ : List ℕ) (samples′ : List Float) (cs : List Call) : Type 0 where
-  pub left : List Call
-  pub met : CallsAt tape (w′ .place) left
-  pub lines : remainingOf w fs us samples cs ≡ piece ++ remainingOf w′ fs′ us′ samples′ left
+-- the calls to come, of those behind what stands at the place: a call there comes first, and where the tape ends none comes
+abbrev pub callsNow : Doing → Tape.Found → List Call → List Call
+callsNow Doing.Call (Tape.foundCall c next) cs = c ∷ cs
+callsNow Doing.Call Tape.foundEnd cs = []
+callsNow Doing.Call (Tape.foundBad place) cs = cs
+callsNow (Doing.Samples from end) f cs = cs
+callsNow (Doing.Values from end) f cs = cs
+callsNow Doing.LineB f cs = cs
+callsNow Doing.LineI f cs = cs
+callsNow Doing.LineC f cs = cs
+callsNow Doing.Done f cs = cs
 
+-- the place behind a call that was made
+abbrev pub placeNext : Doing → Tape.Found → ℕ → ℕ
+placeNext Doing.Call (Tape.foundCall c next) place = next
+placeNext Doing.Call Tape.foundEnd place = place
+placeNext Doing.Call (Tape.foundBad at) place = place
+placeNext (Doing.Samples from end) f place = place
+placeNext (Doing.Values from end) f place = place
+placeNext Doing.LineB f place = place
+placeNext Doing.LineI f place = place
+placeNext Doing.LineC f place = place
+placeNext Doing.Done f place = place
+
+-- a call was made on the receiver
+pub record CallDone (c : Call) (r : Receiver) (fs : List Float) (us : List ℕ) (r′ : Receiver) (fs′ : List Float) (us′ : List ℕ) : Type 0 where
+  pub answer : Answer
+  pub called : Called c r fs us answer r′ fs′ us′
+
+-- Whatever calls follow, what was to be printed is the piece and what is still to be printed. The receiver is changed by the call at the place
+-- alone, and what is lent by nothing else.
 pub record StepWritten (tape : List ℕ) (w : Playback) (fs : List Float) (us : List ℕ) (samples : List Float) (text : List ℕ) (v : Wrote) (fs′ : List Float) (us′ : List ℕ) (samples′ : List Float) (text′ : List ℕ) : Type 0 where
   pub piece : List ℕ
   pub put : TextPut piece text text′ (v .bytes)
@@ -127,7 +153,9 @@ pub record StepWritten (tape : List ℕ) (w : Playback) (fs : List Float) (us : 
   pub word-length : length us′ ≡ length us
   pub sample-length : length samples′ ≡ length samples
   pub only-calls : makesCall (w .doing) ≡ false → Unchanged fs us samples fs′ us′ samples′
-  pub goes-on : (cs : List Call) → CallsAt tape (w .place) cs → GoesOn tape w fs us samples piece (v .playback) fs′ us′ samples′ cs
+  pub made : (c : Call) (next : ℕ) → makesCall (w .doing) ≡ true → callAt tape (w .place) ≡ foundCall c next → CallDone c (w .receiver) fs us (v .playback .receiver) fs′ us′
+  pub next-place : v .playback .place ≡ placeNext (w .doing) (callAt tape (w .place)) (w .place)
+  pub lines : (cs : List Call) → remainingOf w fs us samples (callsNow (w .doing) (callAt tape (w .place)) cs) ≡ piece ++ remainingOf (v .playback) fs′ us′ samples′ cs
   pub held : valuesHeld (v .playback .doing) fs′ samples′ ≡ true
   pub less : stepsLeft tape (v .playback) fs′ samples′ < stepsLeft tape w fs samples
 
