@@ -10,17 +10,9 @@ use std::sync::{Arc, Mutex};
 // no colour
 const MARK: u32 = 0x0100_0000;
 
-#[derive(Clone, Copy, Debug)]
-pub struct Settings {
-    pub adaptive: bool,
-    pub top: f32,
-    pub range: f32,
-    pub zoom: f32,
-    pub smoothing: f32,
-}
-
-pub const FIRST_SETTINGS: Settings =
-    Settings { adaptive: false, top: -35.0, range: 70.0, zoom: 1.0, smoothing: 0.0 };
+#[path = "settings.rs"]
+mod settings;
+pub use settings::{Settings, FIRST_SETTINGS};
 
 pub struct Original {
     pub jitter: [Arc<Mutex<JitterBuffer>>; 2],

@@ -1,19 +1,16 @@
-// What a replay prints for a tape: the tape by the second reader, the questions by their second writing, the lines written
-// here, and everything else by the original.
+// What a replay prints for a tape: the tape and the lines by replay_lines.rs, the questions by their second writing, and
+// everything else by the original.
 use crate::audio::jitter_buffer::JitterBuffer;
 use crate::audio_metrics::AudioMetrics;
 use crate::net::udp_framing::clock_offset_rtt;
-use crate::original::{Original, Settings};
+use crate::original::Original;
 use crate::original_clock::clock_words;
 use crate::questions::{own_verdict, setup_verdict, Call, Setup, Sizes};
-use crate::tape_words::{Call as Taped, Tape};
 use std::fmt::Write;
 
-// the lengths of the areas, and the most bytes of a tape
-pub const AREA: usize = 16_384;
-pub const MOST_BYTES: usize = 65_536;
-
-const LETTERS: [char; 2] = ['A', 'B'];
+#[path = "replay_lines.rs"]
+mod lines;
+pub use lines::*;
 
 // What a channel's buffer was given since its reset.
 enum Given {
@@ -92,8 +89,7 @@ impl Session {
             2 | 4 => {
                 let side = d[3] as usize / 2 - 1;
                 if self.original.draws(side, d) {
-                    write!(self.text, "W {}", LETTERS[side]).unwrap();
-                    line_of(&mut self.text, &self.plain.smooth[side]);
+                    row_line(&mut self.text, side, &self.plain.smooth[side]);
                 }
             }
             _ => self.original.datagram(d),
@@ -109,8 +105,7 @@ impl Session {
         let taken = gone - dropped;
         let short = n - taken;
         self.short[side] += short;
-        write!(self.text, "P {} {taken} {dropped} {short}", LETTERS[side]).unwrap();
-        line_of(&mut self.text, &samples);
+        play_line(&mut self.text, side, [taken, dropped, short], &samples);
     }
 
     // What a play drops: a play of no samples drops as many, and takes none. Where it dropped any, the buffer is made anew
@@ -139,10 +134,10 @@ impl Session {
     }
 
     fn closing(&mut self) {
-        for side in 0..2 {
+        let sound = [0, 1].map(|side| {
             let j = self.original.jitter[side].lock().unwrap();
             let filled = self.short[side] as u64 + self.sizes.0[0] as u64 * j.packets_missing_concealed;
-            let numbers = [
+            [
                 j.packets_received,
                 j.packets_inserted,
                 j.packets_missing_concealed,
@@ -151,11 +146,10 @@ impl Session {
                 j.packets_dropped_invalid_size,
                 j.resync_count,
                 filled,
-            ];
-            writeln!(self.text, "{} {}", LETTERS[side], numbers.map(|n| n.to_string()).join(" ")).unwrap();
-        }
+            ]
+        });
         let s = self.original.stats.lock().unwrap();
-        let numbers = [
+        let datagrams = [
             s.incoming_packets,
             s.audio_packets,
             s.waterfall_packets,
@@ -164,58 +158,21 @@ impl Session {
             s.late_audio_packets,
             s.late_waterfall_packets,
         ];
-        writeln!(self.text, "I {}", numbers.map(|n| n.to_string()).join(" ")).unwrap();
-        let w = clock_words(&self.clock);
-        let or_dash = |there: u64, n: u64| if there == 1 { (n as i64).to_string() } else { "-".into() };
-        writeln!(self.text, "C {} {} {}", or_dash(w[0], w[1]), or_dash(w[0], w[2]), or_dash(w[4], w[5])).unwrap();
-    }
-}
-
-// bits in hex, each after a space, and the end of the line
-fn line_of(text: &mut String, xs: &[f32]) {
-    for x in xs {
-        write!(text, " {:08x}", x.to_bits()).unwrap();
-    }
-    text.push('\n');
-}
-
-// a tape's words as a setup
-fn setup_of(words: &[u32; 12]) -> Setup {
-    Setup { sizes: std::array::from_fn(|i| words[i] as usize), estimates: std::array::from_fn(|i| f32::from_bits(words[6 + i])) }
-}
-
-// a call of a tape as one of a receiver
-fn call_of(c: Taped) -> Call {
-    match c {
-        Taped::Datagram(d) => Call::Datagram(d),
-        Taped::Play(side, n) => Call::Play(side as usize, n as usize),
-        Taped::Reset(side) => Call::Reset(side as usize),
-        Taped::Set(side, adaptive, x) => {
-            let [top, range, zoom, smoothing] = x.map(f32::from_bits);
-            Call::Set(side as usize, Settings { adaptive, top, range, zoom, smoothing })
-        }
-        Taped::Probe(t) => Call::Probe(t),
-        Taped::OneWay([receive, send]) => Call::OneWay(receive, send),
-        Taped::Depth(n, k) => Call::Depth(n as usize, k),
-        Taped::Transmit(n) => Call::TransmitDepth(n as usize),
+        closing_lines(&mut self.text, sound, datagrams, &clock_words(&self.clock));
     }
 }
 
 pub fn replay(tape: &[u8]) -> String {
-    if tape.len() > MOST_BYTES {
-        return format!("X 11 {}\n", MOST_BYTES / 4);
-    }
-    let (words, calls) = match (Tape { bytes: tape }).read() {
-        Ok(read) => read,
-        Err(place) => return format!("X 11 {place}\n"),
+    let (setup, calls) = match session_of(tape) {
+        Ok(session) => session,
+        Err(line) => return line,
     };
-    let setup = setup_of(&words);
     if let Some(number) = setup_verdict(&setup, AREA, AREA) {
         return format!("X {number}\n");
     }
     let mut session = Session::new(&setup);
     for c in calls {
-        session.call(&call_of(c));
+        session.call(&c);
     }
     session.closing();
     session.text
