@@ -1,6 +1,5 @@
 // Replays the tape on standard input and prints what was heard: document 01's replay, over areas of 16,384 words and a tape
 // of at most 65,536 bytes. A tape that is longer, and input or output that fails, are told on standard error too.
-mod input;
 mod output;
 
 // The tape that was read.
@@ -17,7 +16,7 @@ fn replay(tape: &[u8]) {
 
 // Of a longer tape one byte more than the limit is read.
 fn run(tape: &mut [u8]) {
-    let read = input::read_tape(tape);
+    let read = input::read_all(tape);
     let n = read.bytes;
     if read.failed {
         output::say(b"replay: standard input could not be read\n");

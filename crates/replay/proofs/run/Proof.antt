@@ -5,8 +5,8 @@ use borrow.Author.Needs.{needs}
 use Rattle.replay.proofs.run.Statement.{statement}
 use Rattle.replay.proofs.run.Tie as tie
 
-read-tape-requires : tie.Need-read-tape-requires
-read-tape-requires c κs = search needs
+read-all-requires : tie.Need-read-all-requires
+read-all-requires c κs = search needs
 
 slice-aggregate-say : tie.Need-slice-aggregate-say
 slice-aggregate-say c = search needs
@@ -24,7 +24,7 @@ slice-reshare-prefix-replay : tie.Need-slice-reshare-prefix-replay
 slice-reshare-prefix-replay c = search needs
 
 slice-aggregate-replay : tie.Need-slice-aggregate-replay
-slice-aggregate-replay c = simp length-take (omega (arith, c .before .before .before .before .read-tape .ensures, c .before .before .before .before .read-tape .kept))
+slice-aggregate-replay c = simp length-take (omega (arith, c .before .before .before .before .read-all .ensures, c .before .before .before .before .read-all .kept))
 
 replay-requires : tie.Need-replay-requires
 replay-requires c κs = search needs
@@ -39,7 +39,7 @@ pub run-spec : {M : Type 1} → statement M
 run-spec =
     tie.close
     (tie.spec
-    read-tape-requires
+    read-all-requires
     slice-aggregate-say
     say-requires
     same-length

@@ -1,17 +1,17 @@
--- `replay::input::read_tape` meets its contract. Assumes nothing.
+-- `input::read_all` meets its contract. Assumes nothing.
 use native.Mathlib.Omega.{arith}
 use Prim.Native.Nat.{_-_, _≤_}
 use mathlib.Core.Path.{_≡_}
 use lib.ListN.{length}
 use borrow.Author.Needs.{needs}
-use Rattle.replay.proofs.input.read_tape.Statement.{statement}
-use Rattle.replay.proofs.input.read_tape.Tie as tie
+use Rattle.input.proofs.read_all.Statement.{statement}
+use Rattle.input.proofs.read_all.Tie as tie
 
 abbrev Inv-loop : tie.InvT-loop
-Inv-loop tape₀ at₀ tape at = (at ≤ length tape) × (length tape ≡ length tape₀)
+Inv-loop bytes₀ at₀ bytes at = (at ≤ length bytes) × (length bytes ≡ length bytes₀)
 
 abbrev μ-loop : tie.MeasureT-loop
-μ-loop tape₀ at₀ tape at = length tape - at
+μ-loop bytes₀ at₀ bytes at = length bytes - at
 
 loop-holds : tie.Need-loop-holds Inv-loop μ-loop
 loop-holds c = search needs
@@ -37,8 +37,8 @@ same-length-2 c = search needs
 returns-2 : tie.Need-returns-2 Inv-loop μ-loop
 returns-2 c = search needs
 
-pub read-tape-spec : {M : Type 1} → statement M
-read-tape-spec =
+pub read-all-spec : {M : Type 1} → statement M
+read-all-spec =
     tie.close
     (tie.spec
     Inv-loop

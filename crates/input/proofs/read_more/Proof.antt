@@ -1,8 +1,8 @@
--- `replay::input::read_more` meets its contract. Assumes nothing.
+-- `input::read_more` meets its contract. Assumes nothing.
 use mathlib.Core.Bool.{true≢false}
 use borrow.Author.Needs.{needs}
-use Rattle.replay.proofs.input.read_more.Statement.{statement}
-use Rattle.replay.proofs.input.read_more.Tie as tie
+use Rattle.input.proofs.read_more.Statement.{statement}
+use Rattle.input.proofs.read_more.Tie as tie
 
 sub-most : tie.Need-sub-most
 sub-most c = search needs

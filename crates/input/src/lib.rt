@@ -1,4 +1,4 @@
-// A tape from standard input.
+// Bytes from standard input.
 ghost use mathlib.Core.Bool.{false};
 ghost use mathlib.Core.Path.{_≡_};
 ghost use Prim.Native.Nat.{_≤_, _<_};
@@ -19,13 +19,13 @@ fn least(a: usize, b: usize) -> usize
 }
 
 // One read behind the bytes that are there.
-fn read_more(tape: &mut [u8], from: usize) -> Read
-    requires { ⌜ from ≤ length (now tape) ⌝ }
-    ensures { λ r. ⌜ (r .bytes ≤ length (now (tape .entry))) × (r .ended ≡ false → from < r .bytes) ⌝ }
+fn read_more(bytes: &mut [u8], from: usize) -> Read
+    requires { ⌜ from ≤ length (now bytes) ⌝ }
+    ensures { λ r. ⌜ (r .bytes ≤ length (now (bytes .entry))) × (r .ended ≡ false → from < r .bytes) ⌝ }
 {
-    let most = tape.len() - from;
-    let got = libc::read(STDIN_FILENO, &mut tape[from..]);
-    let n = least(io::count(got, tape), most);
+    let most = bytes.len() - from;
+    let got = libc::read(STDIN_FILENO, &mut bytes[from..]);
+    let n = least(io::count(got, bytes), most);
     if n == 0 {
         return Read {
             bytes: from,
@@ -41,12 +41,12 @@ fn read_more(tape: &mut [u8], from: usize) -> Read
 }
 
 // Reads until the input ends, a read fails or the bytes are full.
-pub fn read_tape(tape: &mut [u8]) -> Read
-    ensures { λ r. ⌜ r .bytes ≤ length (now (tape .entry)) ⌝ }
+pub fn read_all(bytes: &mut [u8]) -> Read
+    ensures { λ r. ⌜ r .bytes ≤ length (now (bytes .entry)) ⌝ }
 {
     let mut at = 0;
-    while at < tape.len() {
-        let read = read_more(tape, at);
+    while at < bytes.len() {
+        let read = read_more(bytes, at);
         if read.ended {
             return read;
         }
