@@ -198,6 +198,7 @@ def receiver(q, paper, root):
     rows(q, paper)
     picture(q, paper)
     clock(q, paper)
+    edges(q, paper)
     program(q, paper)
 
 
@@ -621,16 +622,90 @@ def clock(q, paper):
     low, high = (whole(place, g) for g in groups)
     q.add("receiver-one-way", place, "bits (map Clock.oneWayInRange (" + "".join(integer(n) + " ∷ " for n in (low - 1, low, high, high + 1)) + "[]))", [0, 1, 1, 0])
     for i, (place, (probes, offsets)) in enumerate(paper.table("Clock", ["probes (offset, round trip)", "offsets after each"], 3), 1):
-        pairs = re.findall(r"\((−?[\d,]*\d), (−?[\d,]*\d)\)", probes)
-        if ", ".join(f"({o}, {r})" for o, r in pairs) != probes:
-            raise CannotRun(f"{place}: '{probes}' cannot be read")
-        given = [whole(place, n) for p in pairs for n in p]
+        given = pairs_in(place, probes)
         q.add(f"receiver-probes-row-{i}", place, "offsets (" + "".join(integer(n) + " ∷ " for n in given) + "[]) none",
               [n for o in wholes(place, offsets) for n in signed(o)])
     for i, (place, cells) in enumerate(paper.table("Clock", ["t1", "t2", "t3", "t4", "offset", "round trip"], 2), 1):
         times = " ".join(str(whole(place, c)) for c in cells[:4])
         q.add(f"receiver-times-row-{i}", place, f"signed (Clock.probeOffset {times}) ++ signed (Clock.probeRoundTrip {times})",
               [n for c in cells[4:] for n in signed(whole(place, c))])
+
+
+def pairs_in(place, text):
+    """Pairs of numbers in brackets, a comma apart."""
+    pairs = re.findall(r"\((−?[\d,]*\d), (−?[\d,]*\d)\)", text)
+    if ", ".join(f"({o}, {r})" for o, r in pairs) != text:
+        raise CannotRun(f"{place}: '{text}' cannot be read")
+    return [whole(place, n) for p in pairs for n in p]
+
+
+def floats_in(place, text):
+    return [float_bits(place, v) for v in text.split(", ")]
+
+
+def of_bits(patterns):
+    return "(" + "".join(f"Floats.fromBits {b} ∷ " for b in patterns) + "[])"
+
+
+def edges(q, paper):
+    """Worked examples beside rules that could be read in two ways."""
+    table = paper.table("Sound", ["sequence", "samples", "invalid size", "late", "overflow"], 3)
+    full = f"(pushed {sizes(2, 4, 4, 1, 1, 1)} (5 ∷ 6 ∷ []) Jitter.freshBuffer)"
+    paper.sentence("Sound", r"With 2, 4 and 4, after 5 and 6 the buffer is full and next is 7; then", "the pushes in a full buffer")
+    for i, (place, cells) in enumerate(table, 1):
+        sequence, samples, *wanted = (whole(place, c) for c in cells)
+        k = f"Jitter.push 0 {sizes(2, 4, 4, 1, 1, 1)} (record {{ sequence = {sequence}; samples = Picture.countFrom 0 {samples} }}) {full} .counters"
+        q.add(f"receiver-push-tests-row-{i}", place, f"({k}) .invalidSize ∷ ({k}) .late ∷ ({k}) .overflow ∷ []", wanted)
+
+    table = paper.table("Rows", ["chunks in turn: row number, total, first bin: values", "what each completes"], 2)
+    for i, (place, (chunks, completes)) in enumerate(table, 1):
+        given = []
+        for chunk in chunks.split("; "):
+            number, total, first, values = inside(place, chunk, r"^(\d+), (\d+), (\d+): (.*)$")
+            values = [] if values == "none" else floats_in(place, values)
+            given.append(f"chunkOf {number} {total} {first} ({listed(values)})")
+        wanted = []
+        for each in completes.split("; "):
+            values = None if each == "none" else floats_in(place, each)
+            wanted += [WORDS["none"]] if values is None else [len(values)] + values
+        q.add(f"receiver-chunks-row-{i}", place, "completed (" + "".join(f"{g} ∷ " for g in given) + "[]) none", wanted)
+
+    section = "What a completed row does"
+    for i, (place, (row, floor, top)) in enumerate(paper.table(section, ["row", "floor", "top"], 2), 1):
+        r = of_bits(floats_in(place, row))
+        q.add(f"receiver-floor-top-row-{i}", place, f"Floats.toBits (Scaling.rowFloor {r}) ∷ Floats.toBits (Scaling.rowTop {r}) ∷ []",
+              [float_bits(place, floor), float_bits(place, top)], form="hex")
+    table = paper.table(section, ["row", "estimates of top, floor before", "top, floor, range after"], 1)
+    for i, (place, (row, before, after)) in enumerate(table, 1):
+        r = of_bits(floats_in(place, row))
+        top, floor = floats_in(place, before)
+        d = (f"(record {{ adaptive = true; top = Floats.f0; range = Floats.f0; zoom = Floats.f1; smoothing = Floats.f0; topEstimate = Floats.fromBits {top}; "
+             f"floorEstimate = Floats.fromBits {floor}; rangeEstimate = Floats.f0 }})")
+        e = f"(Scaling.displayAfter {r} {d})"
+        q.add(f"receiver-estimates-row-{i}", place, f"Floats.toBits ({e} .topEstimate) ∷ Floats.toBits ({e} .floorEstimate) ∷ Floats.toBits ({e} .rangeEstimate) ∷ []",
+              floats_in(place, after), form="hex")
+    for i, (place, (weight, old, row, after)) in enumerate(paper.table(section, ["smoothing", "buffer", "row", "buffer after"], 4), 1):
+        q.add(f"receiver-smoothing-row-{i}", place,
+              f"floats (Scaling.smoothingAfter (Floats.fromBits {float_bits(place, weight)}) {of_bits([hexadecimal(place, row)])} {of_bits([hexadecimal(place, old)])})",
+              [hexadecimal(place, after)], form="hex")
+    for i, (place, (value, top, span, level)) in enumerate(paper.table(section, ["value in bits", "top", "range", "level"], 5), 1):
+        q.add(f"receiver-levels-row-{i}", place,
+              f"Picture.dbToU8 (Floats.fromBits {hexadecimal(place, value)}) (Floats.fromBits {float_bits(place, top)}) (Floats.fromBits {float_bits(place, span)}) ∷ []",
+              [whole(place, level)])
+
+    for i, (place, (probes, *left)) in enumerate(paper.table("Clock", ["probes (offset, round trip), in turn", "offset", "round trip", "least"], 1), 1):
+        given, t = pairs_in(place, probes), "none"
+        for o, r in zip(given[::2], given[1::2]):
+            t = f"(Clock.probed ({integer(o)}) ({integer(r)}) {t})"
+        offset, trip, least = (whole(place, c) for c in left)
+        q.add(f"receiver-timing-row-{i}", place, f"timingOffset {t} ++ (timingOr (λ k. k .roundTrip) {t} ∷ timingOr (λ k. k .least) {t} ∷ [])", signed(offset) + [trip, least])
+    for i, (place, (samples, *left)) in enumerate(paper.table("Clock", ["samples, in turn", "average", "peak", "transmit peak"], 3), 1):
+        k, t = "Clock.freshClock", "Clock.freshClock"
+        for n in wholes(place, samples):
+            k = f"(Clock.recordDepth {n} (record {{ conceals = 0; late = 0; overflow = 0; resyncs = 0 }}) {k})"
+            t = f"(Clock.recordTransmit {n} {t})"
+        q.add(f"receiver-depths-row-{i}", place, f"Floats.toBits (Clock.depthMs {k}) ∷ Floats.toBits (Clock.depthPeakMs {k}) ∷ Floats.toBits ({t} .transmitPeak) ∷ []",
+              [hexadecimal(place, c) for c in left], form="hex")
 
 
 def integer(n):

@@ -39,6 +39,7 @@ use Rattle.model.specs.JitterBuffer as Jitter
 use Rattle.model.specs.JitterBuffer.{Buffer, Played}
 use Rattle.model.specs.Row as Row
 use Rattle.model.specs.Picture as Picture
+use Rattle.model.specs.Scaling as Scaling
 use Rattle.model.specs.Clock as Clock
 use Rattle.model.specs.Receiver.{Estimates, Setup, State, Lent, Call, datagram, play, reset, set, probe, oneWay, depth, transmitDepth, fresh}
 use Rattle.model.specs.Questions.{Question, firstNo, questions, setupQuestions}
