@@ -3,7 +3,7 @@ use mathlib.Core.Path.{_≡_, refl, sym, _∙_, ap}
 use mathlib.Core.Bool.{Bool, true, false, _&&_, cond, and-eq-true-iff, and-assoc, and-true}
 use mathlib.Core.List.{List, [], _∷_}
 use Prim.Native.Nat.{ℕ, zero, suc, _+_, _-_, _*_, _/_, _≤_, _<_, max}
-use native.Mathlib.Nat.{sub-zero, suc-add, add-suc, add-zero, zero-add, div-lt-iff-lt-mul}
+use native.Mathlib.Nat.{sub-zero, div-lt-iff-lt-mul}
 use native.Mathlib.Omega.{arith}
 use lib.ListN.{length, drop, getD, length-take, length-drop}
 use lib.Dec.{leb, ltb, eqb}
@@ -60,28 +60,12 @@ unfolding sequences packetsFrom wordsFrom
 sequences-words packet k zero fs us = refl
 sequences-words packet k (suc n) fs us = rw (sequences-words packet (suc k) n fs us)
 
-tail-fails : (x : ℕ) (xs : List ℕ) → strictlyRising xs ≡ false → strictlyRising (x ∷ xs) ≡ false
-unfolding strictlyRising
-tail-fails x [] e = clash (cc)
-tail-fails x (y ∷ ys) e = rw e (no-second (ltb x y))
-  where
-    no-second : (b : Bool) → b && false ≡ false
-    no-second true = refl
-    no-second false = refl
-
--- words that do not rise from a place on do not rise
-pub rising-fails : (us : List ℕ) (k i m : ℕ) → strictlyRising (wordsFrom (k + i) m us) ≡ false → strictlyRising (wordsFrom k (i + m) us) ≡ false
-unfolding wordsFrom
-rising-fails us k zero m e = rw zero-add (rw add-zero at e)
-rising-fails us k (suc i) m e =
-    rw suc-add (tail-fails (getD us k 0) (wordsFrom (suc k) (i + m) us) (rising-fails us (suc k) i m (rw (suc-add, ← add-suc) e)))
-
 -- one pair more
 pub rising-pair : (us : List ℕ) (i m : ℕ) → strictlyRising (wordsFrom i (suc (suc m)) us) ≡ ltb (getD us i 0) (getD us (suc i) 0) && strictlyRising (wordsFrom (suc i) (suc m) us)
 unfolding wordsFrom strictlyRising
 rising-pair us i m = refl
 
-pub rising-one : (us : List ℕ) (i : ℕ) → strictlyRising (wordsFrom i 1 us) ≡ true
+pub rising-one : (us : List ℕ) (i : ℕ) → true ≡ strictlyRising (wordsFrom i 1 us)
 unfolding wordsFrom strictlyRising
 rising-one us i = refl
 
@@ -177,12 +161,10 @@ pair-here us n i from-one inside =
     ∙ ap (λ (k : ℕ). ltb (getD us (i - 1) 0) (getD us k 0) && strictlyRising (wordsFrom k (suc (n - i - 1)) us)) here
     ∙ ap (λ (k : ℕ). ltb (getD us (i - 1) 0) (getD us i 0) && strictlyRising (wordsFrom i k us)) one)
 
-pub rises-more : (us : List ℕ) (n i : ℕ) → 0 < i → i < n → getD us (i - 1) 0 < getD us i 0 → strictlyRising (wordsFrom i (n - i) us) ≡ true
-    → strictlyRising (wordsFrom (i - 1) (n - (i - 1)) us) ≡ true
-rises-more us n i from-one inside less r = rw (pair-here us n i from-one inside, lt-ltb (getD us (i - 1) 0) (getD us i 0) less, r)
+-- with one pair more, the answer stays or is no
+pub rises-as-before : (us : List ℕ) (n i : ℕ) (b : Bool) → 0 < i → i < n → getD us (i - 1) 0 < getD us i 0 → b ≡ strictlyRising (wordsFrom i (n - i) us)
+    → b ≡ strictlyRising (wordsFrom (i - 1) (n - (i - 1)) us)
+rises-as-before us n i b from-one inside less r = rw (pair-here us n i from-one inside, lt-ltb (getD us (i - 1) 0) (getD us i 0) less) r
 
-pub falls-short : (us : List ℕ) (n i : ℕ) → 0 < i → i < n → getD us i 0 ≤ getD us (i - 1) 0 → false ≡ strictlyRising (wordsFrom 0 n us)
-falls-short us n i from-one inside not-less =
-    let fails : strictlyRising (wordsFrom (i - 1) (n - (i - 1)) us) ≡ false = rw (pair-here us n i from-one inside, le-ltb (getD us (i - 1) 0) (getD us i 0) not-less) in
-    let all : i - 1 + (n - (i - 1)) ≡ n = omega arith in
-    sym (rw all at (rising-fails us 0 (i - 1) (n - (i - 1)) (rw zero-add fails)))
+pub falls-here : (us : List ℕ) (n i : ℕ) → 0 < i → i < n → getD us i 0 ≤ getD us (i - 1) 0 → false ≡ strictlyRising (wordsFrom (i - 1) (n - (i - 1)) us)
+falls-here us n i from-one inside not-less = rw (pair-here us n i from-one inside, le-ltb (getD us (i - 1) 0) (getD us i 0) not-less)

@@ -1,20 +1,20 @@
--- `jitter_buffer::rises` meets its contract. The loop's invariant: the sequences from i on rise. Assumes nothing.
+-- `jitter_buffer::rises` meets its contract. The loop's invariant: whether the sequences from i on rise. Assumes nothing.
 use mathlib.Core.Path.{_≡_, refl, sym, _∙_, ap}
 use native.Mathlib.Omega.{arith}
-use mathlib.Core.Bool.{true}
+use mathlib.Core.Logic.{⊎-elim}
 use Prim.Native.Nat.{ℕ, _-_, _<_, _≤_}
 use native.Mathlib.Nat.{sub-zero}
 use Rattle.model.specs.Questions.{strictlyRising}
 use Rattle.jitter_buffer.specs.View.{wordsFrom}
-use Rattle.jitter_buffer.proofs.Asked.{unzero, rising-none, rising-one, falls-short, rises-more}
+use Rattle.jitter_buffer.proofs.Asked.{unzero, rising-none, rising-one, rises-as-before, falls-here}
 use Rattle.jitter_buffer.proofs.rises.Statement.{statement}
 use Rattle.jitter_buffer.proofs.rises.Tie as tie
 
 abbrev Inv-loop : tie.InvT-loop
-Inv-loop us n i₀ i = (i < n) × (strictlyRising (wordsFrom i (n - i) us) ≡ true)
+Inv-loop us n rising₀ i₀ rising i = (i < n) × (rising ≡ strictlyRising (wordsFrom i (n - i) us))
 
 abbrev μ-loop : tie.MeasureT-loop
-μ-loop us n i₀ i = i
+μ-loop us n rising₀ i₀ rising i = i
 
 returns : tie.Need-returns Inv-loop μ-loop
 returns c =
@@ -45,12 +45,6 @@ mul-if2-2 c = omega arith
 shared-slice-read-if2-2 : tie.Need-shared-slice-read-if2-2 Inv-loop μ-loop
 shared-slice-read-if2-2 c = omega arith
 
-returns-2 : tie.Need-returns-2 Inv-loop μ-loop
-returns-2 c =
-    let g = c .before .before .before .before .before .before .args in
-    let l = c .before .before .before .before .loop in
-    falls-short (g .us .now) (g .n) (l .i) (omega arith) (omega arith) (c .if2 .taken)
-
 sub-i-2 : tie.Need-sub-i-2 Inv-loop μ-loop
 sub-i-2 c = omega arith
 
@@ -61,12 +55,16 @@ loop-again : tie.Need-loop-again Inv-loop μ-loop
 loop-again c =
     let g = c .before .before .before .before .before .before .args in
     let l = c .before .before .before .before .loop in
-    (omega arith, rises-more (g .us .now) (g .n) (l .i) (omega arith) (omega arith) (c .if2 .left) (l .inv .1))
+    let us = g .us .now in
+    ⊎-elim
+    (λ w. rw (w .1) (omega arith, falls-here us (g .n) (l .i) (omega arith) (omega arith) (w .0 .taken)))
+    (λ w. rw (w .1) (omega arith, rises-as-before us (g .n) (l .i) (l .rising) (omega arith) (omega arith) (w .0 .left) (l .inv .1)))
+    (c .if2 .came)
 
-returns-3 : tie.Need-returns-3 Inv-loop μ-loop
-returns-3 c =
+returns-2 : tie.Need-returns-2 Inv-loop μ-loop
+returns-2 c =
     let none : c .before .loop .i ≡ 0 = omega arith in
-    sym (rw (none, sub-zero) at (c .before .loop .inv .1))
+    rw (none, sub-zero) at (c .before .loop .inv .1)
 
 pub rises-spec : {M : Type 1} → statement M
 rises-spec =
@@ -82,8 +80,7 @@ rises-spec =
     sub-if2
     mul-if2-2
     shared-slice-read-if2-2
-    returns-2
     sub-i-2
     loop-less
     loop-again
-    returns-3)
+    returns-2)
