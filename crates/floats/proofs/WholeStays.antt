@@ -49,7 +49,7 @@ large-stays s m (negsuc k) t h = absurd (too-many-digits k m h (in-range binary3
 less-than-twice : (d : ℕ) → 0 < d → d < 2 * d
 less-than-twice d h = omega arith
 
-zero-stays : (s : Bool) (e : ℤ) → T (fits binary32 (fin s zero e)) → fin s zero e ≡ roundHalfAway (fin s zero e)
+pub zero-stays : (s : Bool) (e : ℤ) → T (fits binary32 (fin s zero e)) → fin s zero e ≡ roundHalfAway (fin s zero e)
 unfolding roundHalfAway
 zero-stays s e t =
     let d = down e in

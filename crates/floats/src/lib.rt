@@ -4,7 +4,7 @@ mod exports;
 
 ghost use mathlib.Core.Path.{_≡_};
 ghost use mathlib.Core.Bool.{false};
-ghost use Prim.Native.Nat.{_<_, _^_, compare};
+ghost use Prim.Native.Nat.{_<_, _≤_, _^_, min, compare};
 ghost use lib.IntN.{pos};
 ghost use lib.Dec.{T};
 ghost use lib.Ieee as Ieee;
@@ -124,9 +124,13 @@ pub fn round(x: f32) -> f32
     ensures { λ r. ⌜ r ≡ roundHalfAway x ⌝ }
 {
     if x > 0.0 {
-        if x < 8388608.0 { half_up(x) } else { x }
+        if x < 8388608.0 { half_up(x) as f32 } else { x }
     } else if x < 0.0 {
-        if x > -8388608.0 { -half_up(-x) } else { x }
+        if x > -8388608.0 {
+            -(half_up(-x) as f32)
+        } else {
+            x
+        }
     } else {
         x
     }
@@ -134,11 +138,34 @@ pub fn round(x: f32) -> f32
 
 // The whole number nearest to x, half up. x + x is exact, and its whole part has the half as its
 // last digit.
-fn half_up(x: f32) -> f32
+fn half_up(x: f32) -> u64
     requires { ⌜ T (lt f0 x) ⌝ ∗ ⌜ T (lt x (fin false 1 (pos 23))) ⌝ }
-    ensures { λ r. ⌜ r ≡ roundHalfAway x ⌝ }
+    ensures { λ r. ⌜ (natf r ≡ roundHalfAway x) × (r ≤ 2 ^ 24) ⌝ }
 {
-    ((std::num::truncating_f32_to_u64(x + x) + 1) / 2) as f32
+    (std::num::truncating_f32_to_u64(x + x) + 1) / 2
+}
+
+// x rounded in that way and then cast to a u8: what lies outside goes to the nearest end, and a NaN to 0. One cast of
+// the float serves.
+pub fn round_to_u8(x: f32) -> u8
+    ensures { λ r. ⌜ r ≡ asUnsigned 8 (roundHalfAway x) ⌝ }
+{
+    if x > 0.0 {
+        if x < 8388608.0 {
+            cut_to_u8(half_up(x))
+        } else {
+            255
+        }
+    } else {
+        0
+    }
+}
+
+// n, and at most 255.
+fn cut_to_u8(n: u64) -> u8
+    ensures { λ r. ⌜ r ≡ min n 255 ⌝ }
+{
+    if n < 255 { n as u8 } else { 255 }
 }
 
 // The f32 nearest to n; where two are as near, the one whose last digit is even.

@@ -39,6 +39,14 @@ drawn-snoc f n =
     let same : 0 + n ≡ n = omega arith in
     rw (countFrom-snoc 0 n, map-append f (countFrom 0 n) ((0 + n) ∷ []), same)
 
+-- by two rules that agree on the first n places
+pub drawn-same : (f g : ℕ → ℕ) (n : ℕ) → ((x : ℕ) → x < n → f x ≡ g x) → drawn f n ≡ drawn g n
+unfolding countFrom
+drawn-same f g zero same = refl
+drawn-same f g (suc n) same =
+    let before = drawn-same f g n (λ x h. same x (omega arith)) in
+    rw (drawn-snoc f n, drawn-snoc g n, before, same n (omega arith))
+
 pub front : (ys xs : List ℕ) → placed 0 ys xs ≡ ys ++ drop (length ys) xs
 unfolding placed
 front ys xs = rw (zero-add (length ys))

@@ -3,8 +3,8 @@ use mathlib.Core.Path.{sym, ap, _∙_, subst}
 use Prim.Native.Nat.{ℕ, _+_, _/_, _^_, _<_, _≤_}
 use native.Mathlib.Omega.{arith}
 use lib.IntN.{pos}
-use lib.Dec.{T, le→leb}
-use lib.Ieee.{binary32, inFloat, ofInt}
+use lib.Dec.{T}
+use lib.Ieee.{binary32, ofInt}
 use Rattle.floats.proofs.HalfUp.{HalfUp, half-up}
 use Rattle.floats.proofs.half_up.Statement.{statement}
 use Rattle.floats.proofs.half_up.Tie as tie
@@ -21,15 +21,11 @@ small c = subst (λ (n : ℕ). n < 2 ^ 24) (sym (c .truncating-f32-to-u64 .ensur
 add-result : tie.Need-add-result
 add-result c = omega (arith, small c)
 
-in-float : (w : ℕ) → w ≤ 2 ^ 24 → T (inFloat binary32 (pos w))
-unfolding inFloat
-in-float w h = le→leb w (2 ^ 24) h
-
-int-to-float-result : tie.Need-int-to-float-result
-int-to-float-result c = in-float _ (omega (arith, small (c .before)))
-
 returns : tie.Need-returns
-returns c = ap (λ (n : ℕ). ofInt binary32 (pos ((n + 1) / 2))) (c .before .truncating-f32-to-u64 .ensures) ∙ facts (c .before .before) .rounds
+returns c = (
+  ap (λ (n : ℕ). ofInt binary32 (pos ((n + 1) / 2))) (c .truncating-f32-to-u64 .ensures) ∙ facts (c .before) .rounds,
+  omega (arith, small c),
+)
 
 pub half-up-spec : {M : Type 1} → statement M
-half-up-spec = tie.close (tie.spec truncating-f32-to-u64-requires add-result int-to-float-result returns)
+half-up-spec = tie.close (tie.spec truncating-f32-to-u64-requires add-result returns)

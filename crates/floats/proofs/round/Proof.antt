@@ -11,6 +11,7 @@ use lib.Dec.{T, lt→ltb}
 use lib.Ieee.{Float, nan, inf, fin, binary32, up, down, lt, neg, fits, ofBits}
 use Rattle.model.specs.Floats.{f0, roundHalfAway}
 use Rattle.floats.proofs.Saturate.{two-to}
+use Rattle.floats.proofs.Narrow.{exact-in-float}
 use Rattle.floats.proofs.Sign.{neg-round}
 use Rattle.floats.proofs.WholeStays.{none-below-zero, large-positive-stays, large-negative-stays, neither-side-stays}
 use Rattle.floats.proofs.round.Statement.{statement}
@@ -57,8 +58,14 @@ half-up-requires-2 c κs =
     let x = c .before .before .before .args .x in
     (negated-is-above-zero x (c .before .if3 .taken), negated-is-small x (c .before .if3 .taken) (c .if4 .taken))
 
+int-to-float-result : tie.Need-int-to-float-result
+int-to-float-result c = exact-in-float _ (c .before .half-up .ensures .1)
+
+int-to-float-result-2 : tie.Need-int-to-float-result-2
+int-to-float-result-2 c = exact-in-float _ (c .before .half-up2 .ensures .1)
+
 returns : tie.Need-returns
-returns c = search needs
+returns c = c .before .half-up .ensures .0
 
 returns-2 : tie.Need-returns-2
 unfolding ofBits
@@ -66,7 +73,7 @@ returns-2 c = large-positive-stays (c .before .before .args .x) (held (c .before
 
 returns-3 : tie.Need-returns-3
 unfolding ofBits
-returns-3 c = ap neg (c .half-up2 .ensures) ∙ sign-put-back (c .before .before .before .before .args .x) (c .before .before .if3 .taken)
+returns-3 c = ap neg (c .before .half-up2 .ensures .0) ∙ sign-put-back (c .before .before .before .before .before .args .x) (c .before .before .before .if3 .taken)
 
 returns-4 : tie.Need-returns-4
 unfolding ofBits neg
@@ -79,4 +86,4 @@ returns-5 c = neither-side-stays (c .before .before .args .x) (held (c .before .
 pub round-spec : {M : Type 1} → statement M
 round-spec =
     tie.close
-    (tie.spec half-up-requires half-up-requires-2 returns returns-2 returns-3 returns-4 returns-5)
+    (tie.spec half-up-requires int-to-float-result half-up-requires-2 int-to-float-result-2 returns returns-2 returns-3 returns-4 returns-5)

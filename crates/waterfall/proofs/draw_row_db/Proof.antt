@@ -48,6 +48,7 @@ draw-top-requires c κs =
     let width = window-width len zoom in
     rw (w .from, w .to, width)
     (record {
+      some-columns = p .some-columns;
       wide = p .few-columns;
       some-bins = visible-some len zoom (p .some-bins);
       in-row = window-inside len zoom;
