@@ -1,5 +1,5 @@
-// Holds the crate `rising` against vectors whose rising order is known: both zeros, equal values,
-// reversed and long lists. A float stands by its bit pattern, and a vector's line says what was
+// Holds the crates `rising` and `radix` against vectors whose rising order is known: both zeros,
+// equal values, reversed and long lists. A float stands by its bit pattern, and a vector's line says what was
 // found, what was expected, and whether the two are equal.
 use libc::STDOUT_FILENO;
 ghost use mathlib.Core.Path.{_≡_};
@@ -11,6 +11,8 @@ ghost use Rattle.model.specs.Bytes.{all};
 struct Tally {
     seen: u64,
     different: u64,
+    // Whether the sort by digits is held against the vectors, or the one by merging.
+    by_digits: bool,
 }
 
 fn write(text: &[u8]) {
@@ -38,12 +40,14 @@ fn finish(t: Tally, equal: bool) -> Tally {
         return Tally {
             seen,
             different: t.different,
+            by_digits: t.by_digits,
         };
     }
     write(b" DIFFERS\n");
     Tally {
         seen,
         different: std::num::wrapping_add_u64(t.different, 1),
+        by_digits: t.by_digits,
     }
 }
 
@@ -61,12 +65,16 @@ fn all_finite(values: &[f32]) -> bool
 }
 
 // Sorts what may be sorted, and says whether it did.
-fn sorted(values: &mut [f32], spare: &mut [f32]) -> bool {
+fn sorted(by_digits: bool, values: &mut [f32], spare: &mut [f32]) -> bool {
     if spare.len() < values.len() {
         return false;
     }
     if all_finite(values) {
-        rising::sort_rising(values, spare);
+        if by_digits {
+            radix::sort_by_digits(values, spare);
+        } else {
+            rising::sort_rising(values, spare);
+        }
         return true;
     }
     false
@@ -89,7 +97,7 @@ fn same_patterns<'a>(found: &'a [f32], expected: &'a [f32]) -> bool {
 // One short list, sorted and held against its rising order.
 fn short<'a>(t: Tally, name: &'a [u8], values: &mut [f32], expected: &'a [f32]) -> Tally {
     let mut spare = [0.0f32; 8];
-    let done = sorted(values, &mut spare);
+    let done = sorted(t.by_digits, values, &mut spare);
     write(name);
     write(b":");
     write_patterns(values);
@@ -222,7 +230,7 @@ fn long(t: Tally, name: &[u8], kind: Kind, run: Run, order: Run) -> Tally {
     let mut values = room();
     let mut spare = room();
     fill(run, kind, &mut values);
-    let done = sorted(&mut values, &mut spare);
+    let done = sorted(t.by_digits, &mut values, &mut spare);
     fill(order, kind, &mut spare);
     write(name);
     write(b":");
@@ -273,15 +281,25 @@ fn long_lists(mut t: Tally) -> Tally {
     t
 }
 
-fn main() {
-    let mut t = Tally {
-        seen: 0,
-        different: 0,
-    };
+fn all_lists(mut t: Tally) -> Tally {
     t = few(t);
     t = zeros(t);
     t = equals_and_ends(t);
     t = long_lists(t);
+    t
+}
+
+fn main() {
+    let mut t = Tally {
+        seen: 0,
+        different: 0,
+        by_digits: false,
+    };
+    write(b"by merging\n");
+    t = all_lists(t);
+    t.by_digits = true;
+    write(b"by digits\n");
+    t = all_lists(t);
     if t.different == 0 {
         write(b"all ");
         io::print_decimal(STDOUT_FILENO, t.seen);
