@@ -21,7 +21,7 @@ use Rattle.calls.specs.Views.{sizesOf}
 use Rattle.sizes.specs.View.{queueAt}
 use Rattle.jitter_buffer.specs.declared.JitterBuffer.{JitterBuffer}
 use Rattle.jitter_buffer.specs.View.{viewOf}
-use Rattle.jitter_buffer.specs.Promises.{HeldAsked, HeldTold}
+use Rattle.jitter_asking.specs.Promises.{HeldAsked, HeldTold}
 use Rattle.jitter_buffer.proofs.Places.{packets-length}
 use Rattle.udp.specs.Packets.{screenAsked, channelOf}
 use Rattle.udp.proofs.Asked.{screen-asked-is}

@@ -27,10 +27,11 @@ use Rattle.calls.specs.Views.{sizesOf}
 use Rattle.sizes.specs.View.{queueAt}
 use Rattle.areas.proofs.Placed.{part-length}
 use Rattle.jitter_buffer.specs.declared.JitterBuffer.{JitterBuffer}
-use Rattle.jitter_buffer.specs.declared.Popped.{Popped}
+use Rattle.jitter_pop.specs.declared.Popped.{Popped}
 use Rattle.jitter_buffer.specs.View.{viewOf}
 use Rattle.jitter_buffer.specs.Promises as Jitter
-use Rattle.jitter_buffer.specs.Promises.{AsLong, PopDone}
+use Rattle.jitter_buffer.specs.Promises.{AsLong}
+use Rattle.jitter_pop.specs.Promises.{PopDone}
 use Rattle.jitter_buffer.proofs.HeldKept.{WordsFit, view-shaped, view-kept}
 use Rattle.jitter_buffer.proofs.Places.{packets-length}
 use Rattle.udp.specs.declared.packets.Screen.{Screen}

@@ -54,7 +54,7 @@ impl Channel {
     {
         let most = sizes::most_waiting(z);
         let jitter = self.jitter;
-        if !jitter.could_be_held(z, &us[..most], calls) {
+        if !jitter_asking::could_be_held(jitter, z, &us[..most], calls) {
             return false;
         }
         let screen = self.screen;
@@ -98,7 +98,7 @@ impl Channel {
         let row = offsets.row;
         let most = offsets.picture;
         let before = self.jitter;
-        let popped = before.pop_samples(z, &mut fs[..row], &mut us[..most], out);
+        let popped = jitter_pop::pop_samples(before, z, &mut fs[..row], &mut us[..most], out);
         let jitter = popped.buffer;
         let screen = self.screen;
         Played {

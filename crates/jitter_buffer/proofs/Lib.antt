@@ -3,12 +3,6 @@ pub mod FillLoop
 pub mod FillView
 pub mod Turns
 pub mod FillTurns
+pub mod AfterFill
 pub mod HeldKept
-pub mod PlayView
-pub mod Plays
 pub mod Amounts
-pub mod Decoded
-pub mod StoreView
-pub mod PushView
-pub mod Pushes
-pub mod Asked

@@ -32,11 +32,6 @@ packetsFrom packet k zero fs us = []
 packetsFrom packet k (suc n) fs us =
     record { sequence = getD us k 0; samples = part (k * packet) packet fs } ∷ packetsFrom packet (suc k) n fs us
 
--- the n sequences from place k on
-unfoldable pub wordsFrom : ℕ → ℕ → List ℕ → List ℕ
-wordsFrom k zero us = []
-wordsFrom k (suc n) us = getD us k 0 ∷ wordsFrom (suc k) n us
-
 abbrev pub countersOf : JitterBuffer → Counters
 countersOf j =
     record {

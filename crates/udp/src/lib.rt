@@ -16,7 +16,7 @@ ghost use Rattle.spectrum_utils.specs.Promises.{Behind, Updated};
 ghost use Rattle.udp.specs.Requires.{CountsFit};
 ghost use Rattle.udp.specs.Views.{countsOf, displayOf};
 ghost use Rattle.udp.specs.Displays.{RowAt, AdaptiveUpdated};
-use jitter_buffer::counter_held;
+use jitter_asking::counter_held;
 use spectrum_utils::FloorAndTop;
 use spectrum_utils::RowEstimate;
 use std::num::wrapping_add_u32;

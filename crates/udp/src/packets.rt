@@ -41,7 +41,7 @@ pub fn handle_audio_packet(
     if !holds_samples(payload) {
         return jitter;
     }
-    jitter.push_packet(z, fs, us, sequence, payload)
+    jitter_push::push_packet(jitter, z, fs, us, sequence, payload)
 }
 
 // What a channel shows, but for the values, which stand in lent memory: the row that chunks are stored in, how many bins of

@@ -1,0 +1,2 @@
+pub mod PlayView
+pub mod Plays

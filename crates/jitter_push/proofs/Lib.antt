@@ -1,0 +1,4 @@
+pub mod Decoded
+pub mod StoreView
+pub mod PushView
+pub mod Pushes
