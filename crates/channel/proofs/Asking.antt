@@ -23,8 +23,8 @@ use Rattle.jitter_buffer.specs.declared.JitterBuffer.{JitterBuffer}
 use Rattle.jitter_buffer.specs.View.{viewOf}
 use Rattle.jitter_asking.specs.Promises.{HeldAsked, HeldTold}
 use Rattle.jitter_buffer.proofs.Places.{packets-length}
-use Rattle.udp.specs.Packets.{screenAsked, channelOf}
-use Rattle.udp.proofs.Asked.{screen-asked-is}
+use Rattle.udp_packets.specs.Packets.{screenAsked, channelOf}
+use Rattle.udp_packets.proofs.Asked.{screen-asked-is}
 use Rattle.channel.specs.declared.Channel.{Channel}
 use Rattle.channel.specs.View.{rowAt, channelIn}
 use Rattle.channel.specs.Promises.{ChannelAsked}

@@ -14,8 +14,8 @@ use Rattle.calls.specs.declared.Estimates.{Estimates}
 use Rattle.calls.specs.Views.{sizesOf, modelEstimates}
 use Rattle.jitter_buffer.specs.declared.JitterBuffer.{JitterBuffer}
 use Rattle.jitter_buffer.specs.View.{viewOf}
-use Rattle.udp.specs.declared.packets.Screen.{Screen}
-use Rattle.udp.specs.Packets.{FreshScreen}
+use Rattle.udp_packets.specs.declared.Screen.{Screen}
+use Rattle.udp_packets.specs.Packets.{FreshScreen}
 use Rattle.channel.specs.View.{channelIn}
 
 pub fresh-channel : (z : Sizes) (e : Estimates) (j : JitterBuffer) (s : Screen) (top floor range : Float) (fs : List Float) (us : List ℕ)

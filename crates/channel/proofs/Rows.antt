@@ -22,11 +22,11 @@ use Rattle.sizes.specs.View.{queueAt}
 use Rattle.sizes.proofs.Bounds.{picture-bound}
 use Rattle.jitter_buffer.specs.View.{viewOf}
 use Rattle.jitter_buffer.proofs.Places.{queue-low}
-use Rattle.udp.specs.declared.packets.Screen.{Screen}
-use Rattle.udp.specs.declared.packets.Handled.{Handled}
-use Rattle.udp.specs.Rows.{completedOf}
-use Rattle.udp.specs.Packets.{screenAsked, channelOf, ScreenReady, WaterfallHandled}
-use Rattle.udp.proofs.Asked.{screen-asked-is}
+use Rattle.udp_packets.specs.declared.Screen.{Screen}
+use Rattle.udp_packets.specs.declared.Handled.{Handled}
+use Rattle.reassembler.specs.Rows.{completedOf}
+use Rattle.udp_packets.specs.Packets.{screenAsked, channelOf, ScreenReady, WaterfallHandled}
+use Rattle.udp_packets.proofs.Asked.{screen-asked-is}
 use Rattle.channel.specs.declared.Channel.{Channel}
 use Rattle.channel.specs.declared.Shown.{Shown}
 use Rattle.channel.specs.View.{rowAt, channelIn}

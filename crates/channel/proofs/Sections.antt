@@ -20,10 +20,10 @@ use Rattle.sizes.specs.View.{queueAt}
 use Rattle.jitter_buffer.specs.declared.JitterBuffer.{JitterBuffer}
 use Rattle.jitter_buffer.specs.View.{packetsFrom, viewOf}
 use Rattle.jitter_buffer.proofs.Places.{place-ends, SamePacket, same-packets}
-use Rattle.udp.specs.declared.packets.Screen.{Screen}
-use Rattle.udp.specs.Packets.{channelOf, screenAsked}
-use Rattle.udp.specs.Packets.{rowAsked}
-use Rattle.udp.proofs.Screens.{row-in-front, asked-lengths}
+use Rattle.udp_packets.specs.declared.Screen.{Screen}
+use Rattle.udp_packets.specs.Packets.{channelOf, screenAsked}
+use Rattle.udp_packets.specs.Packets.{rowAsked}
+use Rattle.udp_packets.proofs.Screens.{row-in-front, asked-lengths}
 use Rattle.channel.specs.declared.Channel.{Channel}
 use Rattle.channel.specs.View.{rowAt, channelIn, Inside}
 

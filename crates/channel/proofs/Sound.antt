@@ -34,11 +34,11 @@ use Rattle.jitter_buffer.specs.Promises.{AsLong}
 use Rattle.jitter_pop.specs.Promises.{PopDone}
 use Rattle.jitter_buffer.proofs.HeldKept.{WordsFit, view-shaped, view-kept}
 use Rattle.jitter_buffer.proofs.Places.{packets-length}
-use Rattle.udp.specs.declared.packets.Screen.{Screen}
-use Rattle.udp.specs.declared.reassembler.WaterfallReassembler.{WaterfallReassembler}
-use Rattle.udp.specs.declared.reassembler.WaterfallReassembler.the-variants as State
-use Rattle.udp.specs.Rows.{rowOf}
-use Rattle.udp.specs.Packets.{AudioHandled}
+use Rattle.udp_packets.specs.declared.Screen.{Screen}
+use Rattle.reassembler.specs.declared.WaterfallReassembler.{WaterfallReassembler}
+use Rattle.reassembler.specs.declared.WaterfallReassembler.the-variants as State
+use Rattle.reassembler.specs.Rows.{rowOf}
+use Rattle.udp_packets.specs.Packets.{AudioHandled}
 use Rattle.channel.specs.declared.Channel.{Channel}
 use Rattle.channel.specs.View.{rowAt, channelIn}
 use Rattle.channel.specs.Promises.{Ready, BehindKept, AudioTaken, ChannelPlayed}

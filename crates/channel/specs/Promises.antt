@@ -18,8 +18,8 @@ use Rattle.calls.specs.declared.Estimates.{Estimates}
 use Rattle.calls.specs.declared.Settings.{Settings}
 use Rattle.calls.specs.Views.{sizesOf, modelEstimates, modelSettings}
 use Rattle.jitter_buffer.specs.View.{nextOf}
-use Rattle.udp.specs.Packets.{screenAsked}
-use Rattle.udp.specs.Rows.{completedOf, CompletedInside}
+use Rattle.udp_packets.specs.Packets.{screenAsked}
+use Rattle.reassembler.specs.Rows.{completedOf, CompletedInside}
 use Rattle.channel.specs.declared.Channel.{Channel}
 use Rattle.channel.specs.declared.Shown.{Shown}
 use Rattle.channel.specs.declared.Played.{Played}

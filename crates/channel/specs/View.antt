@@ -14,7 +14,7 @@ use Rattle.calls.specs.declared.Sizes.{Sizes}
 use Rattle.calls.specs.Views.{sizesOf}
 use Rattle.sizes.specs.View.{queueAt}
 use Rattle.jitter_buffer.specs.View.{viewOf}
-use Rattle.udp.specs.Packets.{channelOf, screenAsked}
+use Rattle.udp_packets.specs.Packets.{channelOf, screenAsked}
 use Rattle.channel.specs.declared.Channel.{Channel}
 
 -- where the row begins in the f32 section: behind the waiting samples and the queue

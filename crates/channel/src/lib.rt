@@ -11,9 +11,9 @@ use calls::Estimates;
 use calls::Settings;
 use calls::Sizes;
 use jitter_buffer::JitterBuffer;
+use reassembler::CompletedRow;
 use udp::Display;
-use udp::packets::Screen;
-use udp::reassembler::CompletedRow;
+use udp_packets::Screen;
 
 pub struct Channel {
     pub jitter: JitterBuffer,
@@ -77,7 +77,7 @@ impl Channel {
         let row = offsets.row;
         let most = offsets.picture;
         let before = self.jitter;
-        let jitter = udp::packets::handle_audio_packet(
+        let jitter = udp_packets::handle_audio_packet(
             before,
             z,
             &mut fs[..row],
@@ -163,7 +163,7 @@ impl Channel {
         let picture = offsets.picture;
         let end = picture + z.width * z.height;
         let before = self.screen;
-        let handled = udp::packets::handle_waterfall_packet(
+        let handled = udp_packets::handle_waterfall_packet(
             before,
             z,
             &mut fs[row..],

@@ -32,10 +32,10 @@ use Rattle.channel.specs.View.{Inside}
 use Rattle.udp_framing.specs.declared.MediaHeader.{MediaHeader}
 use Rattle.udp_framing.specs.Views.{headerOf}
 use Rattle.udp.specs.declared.StreamCounts.{StreamCounts}
-use Rattle.udp.specs.declared.reassembler.CompletedRow.the-variants as Completed
+use Rattle.reassembler.specs.declared.CompletedRow.the-variants as Completed
 use Rattle.udp.specs.Requires.{CountsFit}
 use Rattle.udp.specs.Views.{countsOf}
-use Rattle.udp.specs.Rows.{completedOf}
+use Rattle.reassembler.specs.Rows.{completedOf}
 use Rattle.udp.proofs.CountsHeld.{held-counts-fit, held-incoming-fits}
 use Rattle.receiver_state.specs.declared.Receiver.{Receiver}
 use Rattle.receiver_state.specs.declared.Answer.the-variants as Answer

@@ -12,6 +12,7 @@ ghost use Rattle.receiver_state.specs.Promises.{verdictOf, Ready};
 ghost use Rattle.receiver.specs.Promises.{modelStream, countedOn, headerQuestions, HeaderReady, DatagramTaken};
 use calls::Side;
 use calls::Sizes;
+use reassembler::CompletedRow;
 use receiver_state::Answer;
 use receiver_state::Answered;
 use receiver_state::Receiver;
@@ -23,7 +24,6 @@ use receiver_state::counted::refusal;
 use receiver_state::sides::audio_on;
 use receiver_state::sides::waterfall_on;
 use udp::StreamCounts;
-use udp::reassembler::CompletedRow;
 use udp_framing::MediaHeader;
 use udp_framing::ParsedHeader;
 
@@ -162,7 +162,7 @@ fn stream_allowed(z: Sizes, stream: Stream, bytes: &[u8]) -> bool
 {
     match stream {
         Stream::Audio(_) => true,
-        Stream::Waterfall(_) => udp::packets::total_allowed(z, &bytes[16..]),
+        Stream::Waterfall(_) => udp_packets::total_allowed(z, &bytes[16..]),
         Stream::Other => true,
     }
 }

@@ -20,9 +20,9 @@ use Rattle.calls.specs.declared.Side.the-variants.{A, B}
 use Rattle.calls.specs.Views.{sizesOf}
 use Rattle.areas.proofs.Placed.{part-length, part-part, part-within}
 use Rattle.areas.proofs.PutBack.{part-put-back}
-use Rattle.udp.specs.declared.reassembler.CompletedRow.{CompletedRow}
-use Rattle.udp.specs.declared.reassembler.CompletedRow.the-variants as Completed
-use Rattle.udp.specs.Rows.{completedOf, CompletedInside}
+use Rattle.reassembler.specs.declared.CompletedRow.{CompletedRow}
+use Rattle.reassembler.specs.declared.CompletedRow.the-variants as Completed
+use Rattle.reassembler.specs.Rows.{completedOf, CompletedInside}
 use Rattle.channel.specs.declared.Channel.{Channel}
 use Rattle.channel.specs.declared.Shown.{Shown}
 use Rattle.channel.specs.View.{rowAt, channelIn, Inside}

@@ -20,7 +20,7 @@ use Rattle.calls.specs.declared.Side.{Side}
 use Rattle.calls.specs.declared.Sizes.{Sizes}
 use Rattle.calls.specs.Views.{modelSide, sizesOf}
 use Rattle.jitter_buffer.specs.View.{nextOf}
-use Rattle.udp.specs.Rows.{completedOf, CompletedInside}
+use Rattle.reassembler.specs.Rows.{completedOf, CompletedInside}
 use Rattle.channel.specs.View.{channelIn, Inside}
 use Rattle.receiver_state.specs.declared.Receiver.{Receiver}
 use Rattle.receiver_state.specs.declared.Answer.{Answer}

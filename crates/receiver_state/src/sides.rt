@@ -15,7 +15,7 @@ use crate::Receiver;
 use calls::Side;
 use calls::Sizes;
 use channel::Channel;
-use udp::reassembler::CompletedRow;
+use reassembler::CompletedRow;
 
 // Where a channel's sections begin in the two areas.
 pub struct SectionStarts {

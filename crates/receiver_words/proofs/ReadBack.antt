@@ -21,9 +21,9 @@ use Rattle.udp.specs.declared.Display.{Display}
 use Rattle.udp.specs.declared.LastSequence.{LastSequence}
 use Rattle.udp.specs.declared.LastSequence.the-variants.{Unknown, Known}
 use Rattle.udp.specs.declared.StreamCounts.{StreamCounts}
-use Rattle.udp.specs.declared.packets.Screen.{Screen}
-use Rattle.udp.specs.declared.reassembler.WaterfallReassembler.{WaterfallReassembler}
-use Rattle.udp.specs.declared.reassembler.WaterfallReassembler.the-variants.{NoRow, Open}
+use Rattle.udp_packets.specs.declared.Screen.{Screen}
+use Rattle.reassembler.specs.declared.WaterfallReassembler.{WaterfallReassembler}
+use Rattle.reassembler.specs.declared.WaterfallReassembler.the-variants.{NoRow, Open}
 use Rattle.channel.specs.declared.Channel.{Channel}
 use Rattle.receiver_state.specs.declared.Receiver.{Receiver}
 use Rattle.receiver_words.specs.Words.{lastIn, countsIn, nextIn, bufferIn, rowIn, displayIn, screenIn, flagWord, knownWord, lastWord, countWords, startedWord, nextWord, bufferWords, rowWords, screenWords}

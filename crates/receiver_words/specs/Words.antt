@@ -14,9 +14,9 @@ use Rattle.udp.specs.declared.Display.{Display}
 use Rattle.udp.specs.declared.LastSequence.{LastSequence}
 use Rattle.udp.specs.declared.LastSequence.the-variants.{Unknown, Known}
 use Rattle.udp.specs.declared.StreamCounts.{StreamCounts}
-use Rattle.udp.specs.declared.packets.Screen.{Screen}
-use Rattle.udp.specs.declared.reassembler.WaterfallReassembler.{WaterfallReassembler}
-use Rattle.udp.specs.declared.reassembler.WaterfallReassembler.the-variants.{NoRow, Open}
+use Rattle.udp_packets.specs.declared.Screen.{Screen}
+use Rattle.reassembler.specs.declared.WaterfallReassembler.{WaterfallReassembler}
+use Rattle.reassembler.specs.declared.WaterfallReassembler.the-variants.{NoRow, Open}
 
 -- ---- words read: a flag of 0 says that what follows it is absent
 

@@ -8,12 +8,12 @@ use audio_metrics::words::float_word;
 use calls::Sizes;
 use jitter_buffer::JitterBuffer;
 use jitter_buffer::NextSequence;
+use reassembler::OpenRow;
+use reassembler::WaterfallReassembler;
 use udp::Display;
 use udp::LastSequence;
 use udp::StreamCounts;
-use udp::packets::Screen;
-use udp::reassembler::OpenRow;
-use udp::reassembler::WaterfallReassembler;
+use udp_packets::Screen;
 
 fn flag_word(b: bool) -> u64
     ensures { λ r. ⌜ r ≡ flagWord b ⌝ }

@@ -1,14 +1,4 @@
 pub mod Smoothing
 pub mod Adaptive
-pub mod Audio
-pub mod ChunkHandled
-pub mod ShowRow
-pub mod Screens
-pub mod RowParts
-pub mod Asked
+pub mod CountsAsked
 pub mod CountsHeld
-pub mod Fresh
-pub mod FloatBytes
-pub mod Prefix
-pub mod RowStore
-pub mod WellFormed

@@ -1,4 +1,4 @@
--- The model's counts, display and row, read out of the crate's values. Assumes nothing.
+-- The model's counts and display, read out of the crate's values. Assumes nothing.
 use Prim.Native.Nat.{ℕ}
 use mathlib.Core.Option.{Option, none, some}
 use Rattle.model.specs.Counts as Counts

@@ -1,8 +1,6 @@
-// What a datagram does to a stream's counts and to a channel's rows, as rigflow-client/src/net/udp.rs has it. A state
-// goes in by value and comes back; a row's values stand in a lent slice. Every float of a row may be a NaN.
-pub mod packets;
-pub mod reassembler;
-
+// What a datagram does to a stream's counts, and what a completed row does to smoothing and to the display, as
+// rigflow-client/src/net/udp.rs has it. A state goes in by value and comes back; a row's values stand in a lent slice.
+// Every float of a row may be a NaN.
 ghost use mathlib.Core.Path.{_≡_};
 ghost use Prim.Native.Nat.{_+_, _*_};
 ghost use lib.ListN.{length, take};

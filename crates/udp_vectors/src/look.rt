@@ -4,13 +4,13 @@ use crate::compare::Verdict;
 use crate::session::Session;
 use calls::Side;
 use calls::Sizes;
+use reassembler::WaterfallReassembler;
 use receiver_state::readings::Place;
 use receiver_state::readings::picture_place;
 use receiver_state::readings::row_place;
 use receiver_state::sides::channel_of;
 use std::num::wrapping_add_usize;
-use udp::packets::Screen;
-use udp::reassembler::WaterfallReassembler;
+use udp_packets::Screen;
 
 // The places of a picture.
 fn pixels_of(z: Sizes) -> usize {

@@ -4,7 +4,7 @@ use Prim.Native.Nat.{_*_}
 use borrow.Author.Tests.{not-true, not-false}
 use Rattle.model.specs.Questions.{mostCalls}
 use Rattle.udp.specs.Views.{countsOf}
-use Rattle.udp.proofs.Asked.{packets-refused, dropped-refused, late-left}
+use Rattle.udp.proofs.CountsAsked.{packets-refused, dropped-refused, late-left}
 use borrow.Author.Needs.{needs}
 use Rattle.udp.proofs.StreamCounts.could_be_held.Statement.{statement}
 use Rattle.udp.proofs.StreamCounts.could_be_held.Tie as tie

@@ -1,0 +1,4 @@
+pub mod FloatBytes
+pub mod Prefix
+pub mod RowStore
+pub mod WellFormed

@@ -1,0 +1,2 @@
+pub mod Requires
+pub mod Rows
