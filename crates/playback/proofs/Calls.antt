@@ -17,13 +17,13 @@ use Rattle.calls.specs.Views.{sizesOf}
 use Rattle.receiver_state.specs.declared.Receiver.{Receiver}
 use Rattle.receiver_state.specs.declared.Answered.{Answered}
 use Rattle.replaying.specs.Acting.{callFound, MadeOf, TooMany}
-use Rattle.playback.specs.declared.Doing.{Doing}
-use Rattle.playback.specs.declared.Doing.the-variants as Doing
-use Rattle.playback.specs.declared.Playback.{Playback}
+use Rattle.playback_parts.specs.declared.Doing.{Doing}
+use Rattle.playback_parts.specs.declared.Doing.the-variants as Doing
+use Rattle.playback_parts.specs.declared.Playback.{Playback}
 use Rattle.playback.specs.declared.Wrote.{Wrote}
-use Rattle.playback.specs.declared.facts.Facts.{Facts}
-use Rattle.playback.specs.declared.facts.Kind.the-variants as Kind
-use Rattle.playback.specs.Facts.{FactsOf}
+use Rattle.playback_parts.specs.declared.facts.Facts.{Facts}
+use Rattle.playback_parts.specs.declared.facts.Kind.the-variants as Kind
+use Rattle.playback_parts.specs.Facts.{FactsOf}
 use Rattle.playback.specs.Steps.{askedNext, roomFor, StepWritten, CallBegun}
 use Rattle.playback.proofs.Written.{call-written}
 

@@ -1,9 +1,5 @@
 pub mod AnswerKinds
 pub mod Walks
-pub mod Texts
-pub mod Streams
-pub mod PartLaws
 pub mod Written
 pub mod Calls
-pub mod Begins
 pub mod Replayed

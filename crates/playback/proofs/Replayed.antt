@@ -12,17 +12,18 @@ use Rattle.model.specs.Receiver.{Call}
 use Rattle.model.specs.Tape.{callAt, foundBad}
 use Rattle.model.proofs.BoolLaws.{clash}
 use Rattle.model.proofs.TapeWalk.{CallsAt, ended, met}
-use Rattle.playback.specs.declared.Doing.{Doing}
-use Rattle.playback.specs.declared.Doing.the-variants as Doing
-use Rattle.playback.specs.declared.Playback.{Playback}
+use Rattle.playback_parts.specs.declared.Doing.{Doing}
+use Rattle.playback_parts.specs.declared.Doing.the-variants as Doing
+use Rattle.playback_parts.specs.declared.Playback.{Playback}
 use Rattle.playback.specs.declared.Turn.{Turn}
 use Rattle.playback.specs.declared.Wrote.{Wrote}
 use Rattle.playback.specs.declared.Step.{Step}
 use Rattle.playback.specs.declared.Step.the-variants as Step
-use Rattle.playback.specs.declared.opening.Beginning.the-variants as Beginning
-use Rattle.playback.specs.Parts.{TextPut}
+use Rattle.playback_opening.specs.declared.Beginning.the-variants as Beginning
+use Rattle.playback_parts.specs.Parts.{TextPut}
+use Rattle.playback_opening.specs.Beginnings.{BegunTo}
 use Rattle.playback.specs.Steps.{remaining, remainingOf, valuesHeld, roomFor, callsNow, placeNext, stepsLeft, turnsLeft, StepWritten, StepDone}
-use Rattle.playback.specs.Chains.{BegunTo, Moment, WrittenAt, Steps, here, wrote}
+use Rattle.playback.specs.Chains.{Moment, WrittenAt, Steps, here, wrote}
 
 -- what stands at the front is the text
 put-front : (text entry exit : List ℕ) (n : ℕ) → TextPut text entry exit n → take n exit ≡ text

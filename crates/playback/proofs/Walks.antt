@@ -1,7 +1,7 @@
 -- A call moves the tape's place on, so that only so many steps are left; and values inside of what is lent. Assumes nothing.
 use Prim.Native.Nat.{ℕ, zero, suc, _+_, _-_, _*_, _≤_, _<_, min}
 use mathlib.Core.Path.{_≡_, refl, sym, _∙_, ap}
-use mathlib.Core.Bool.{Bool, true, false, _&&_}
+use mathlib.Core.Bool.{Bool, true, false, not, _&&_}
 use mathlib.Core.List.{List, [], _∷_}
 use native.Mathlib.Omega.{arith}
 use native.Mathlib.Nat.{mul-le-mul-right}
@@ -9,7 +9,7 @@ use lib.ListN.{length, take, drop, length-drop}
 use lib.Seq.{take-all, drop-length}
 use lib.Dec.{leb}
 use lib.Ieee.{Float}
-use borrow.Author.Tests.{leb-true, leb-false}
+use borrow.Author.Tests.{leb-true, leb-false, not-false}
 use Rattle.model.specs.Bytes.{all, part}
 use Rattle.model.specs.Receiver.{Call}
 use Rattle.model.specs.Tape.{wordsOf, endsInPart, Found, foundCall, foundEnd, foundBad, find, fromStart, callAt}
@@ -17,8 +17,8 @@ use Rattle.model.proofs.BoolLaws.{by-test, clash, first-of-both, second-of-both
 use Rattle.model.proofs.ListLaws.{all-drop}
 use Rattle.model.proofs.BytesLaws.{isByte, isWord, words-of-are-words}
 use Rattle.tape.proofs.CheckLaws.{found-takes}
-use Rattle.playback.specs.declared.Doing.{Doing}
-use Rattle.playback.specs.declared.Doing.the-variants as Doing
+use Rattle.playback_parts.specs.declared.Doing.{Doing}
+use Rattle.playback_parts.specs.declared.Doing.the-variants as Doing
 use Rattle.playback.specs.Steps.{valuesHeld, stage}
 
 -- ---- the place moves on
@@ -98,3 +98,9 @@ part-inside place n xs =
     let long : length (drop place xs) ≡ length xs - from = ap length (sym (drop-inside place xs)) ∙ length-drop from xs in
     let count : from + min n (length xs - from) - from ≡ min n (length (drop place xs)) = rw long (omega arith) in
     rw (count, drop-inside place xs) (sym (take-inside n (drop place xs)))
+
+-- values that the test lets through lie inside
+pub values-inside : (from end : ℕ) (xs : List Float) (test : Bool) → test ≡ (leb from end && leb end (length xs)) → not test ≡ false → (from ≤ end) × (end ≤ length xs)
+values-inside from end xs test is let-through =
+    let both : (leb from end && leb end (length xs)) ≡ true = sym is ∙ not-false test let-through in
+    (leb-true from end (first-of-both (leb from end) (leb end (length xs)) both), leb-true end (length xs) (second-of-both (leb from end) (leb end (length xs)) both))

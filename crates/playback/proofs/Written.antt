@@ -28,14 +28,14 @@ use Rattle.receiver_state.specs.View.{stateOf, lentOf, answerOf}
 use Rattle.receiver_state.specs.Report.{countersIn, reportOf}
 use Rattle.replaying.specs.Acting.{samplesAsked, valuesOf, CallMade, Unchanged}
 use Rattle.replaying.specs.Printing.{valuesEnded, leftOf, leftBehind}
-use Rattle.playback.specs.declared.Doing.{Doing}
-use Rattle.playback.specs.declared.Doing.the-variants as Doing
-use Rattle.playback.specs.declared.Playback.{Playback}
+use Rattle.playback_parts.specs.declared.Doing.{Doing}
+use Rattle.playback_parts.specs.declared.Doing.the-variants as Doing
+use Rattle.playback_parts.specs.declared.Playback.{Playback}
 use Rattle.playback.specs.declared.Wrote.{Wrote}
-use Rattle.playback.specs.declared.facts.Facts.{Facts}
-use Rattle.playback.specs.declared.parts.Part.{Part}
-use Rattle.playback.specs.Facts.{placeOf, CallFacts}
-use Rattle.playback.specs.Parts.{partEnded, partLeft, TextPut, PartPut}
+use Rattle.playback_parts.specs.declared.facts.Facts.{Facts}
+use Rattle.playback_parts.specs.declared.parts.Part.{Part}
+use Rattle.playback_parts.specs.Facts.{placeOf, CallFacts}
+use Rattle.playback_parts.specs.Parts.{partEnded, partLeft, TextPut, PartPut}
 use Rattle.playback.specs.Steps.{remaining, remainingOf, valuesHeld, makesCall, stage, stepsLeft, callsNow, placeNext, CallDone, StepWritten, doingAfter, CallBegun, Printed, incomingOf, clockOf, behindPart, samplesLeft, valuesLeft}
 use Rattle.playback.proofs.AnswerKinds.{Kind, rows, samples, answerKind, callKind, answer-kind, answer-allowed}
 use Rattle.playback.proofs.Walks.{call-moves, stage-few, moved-less, part-inside}

@@ -1,4 +1,2 @@
-pub mod Facts
-pub mod Parts
 pub mod Steps
 pub mod Chains

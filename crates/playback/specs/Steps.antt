@@ -25,18 +25,18 @@ use Rattle.replaying.specs.declared.printing.Left.{Left}
 use Rattle.replaying.specs.declared.printing.Left.the-variants as Left
 use Rattle.replaying.specs.Acting.{samplesAsked, Unchanged}
 use Rattle.replaying.specs.Printing.{leftOf, leftBehind}
-use Rattle.playback.specs.declared.Doing.{Doing}
-use Rattle.playback.specs.declared.Doing.the-variants as Doing
-use Rattle.playback.specs.declared.Playback.{Playback}
+use Rattle.playback_parts.specs.declared.Doing.{Doing}
+use Rattle.playback_parts.specs.declared.Doing.the-variants as Doing
+use Rattle.playback_parts.specs.declared.Playback.{Playback}
 use Rattle.playback.specs.declared.Turn.{Turn}
 use Rattle.playback.specs.declared.Wrote.{Wrote}
 use Rattle.playback.specs.declared.Step.{Step}
 use Rattle.playback.specs.declared.Step.the-variants as Step
-use Rattle.playback.specs.declared.facts.Facts.{Facts}
-use Rattle.playback.specs.declared.facts.Kind.the-variants as Kind
-use Rattle.playback.specs.declared.parts.Part.{Part}
-use Rattle.playback.specs.Facts.{FactsOf}
-use Rattle.playback.specs.Parts.{partEnded, TextPut}
+use Rattle.playback_parts.specs.declared.facts.Facts.{Facts}
+use Rattle.playback_parts.specs.declared.facts.Kind.the-variants as Kind
+use Rattle.playback_parts.specs.declared.parts.Part.{Part}
+use Rattle.playback_parts.specs.Facts.{FactsOf}
+use Rattle.playback_parts.specs.Parts.{partEnded, TextPut}
 
 -- ---- what is still to be printed
 

@@ -1,35 +1,8 @@
 // The replay of a tape, step by step. A step writes a piece of text at the front of lent bytes: what the steps write, one
 // after the other, is what a replay prints.
-pub mod closing;
-pub mod facts;
-pub mod limits;
-pub mod opening;
-pub mod parts;
 pub mod stepping;
 
-use receiver_state::Receiver;
-
-// What a step prints next.
-pub enum Doing {
-    // The line of the call at the place, as far as its values.
-    Call,
-    // A play's samples from one place to another, then the line's end.
-    Samples { from: usize, end: usize },
-    // Values of the f32 area from one place to another, then the line's end.
-    Values { from: usize, end: usize },
-    // The closing lines behind A's.
-    LineB,
-    LineI,
-    LineC,
-    Done,
-}
-
-// Where a replay is: the receiver, the tape's next place, and what is printed next.
-pub struct Playback {
-    pub receiver: Receiver,
-    pub place: usize,
-    pub doing: Doing,
-}
+use playback_parts::Playback;
 
 // What a step wrote.
 pub struct Wrote {

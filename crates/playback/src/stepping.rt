@@ -8,20 +8,21 @@ ghost use Rattle.model.specs.Framing as Framing;
 ghost use Rattle.model.specs.Replay.{channelLine};
 ghost use Rattle.receiver_state.specs.Report.{countersIn, reportOf};
 ghost use Rattle.playback.specs.Steps.{doingAfter, samplesLeft, valuesLeft, incomingOf, clockOf, CallBegun, Printed, MakeReady, StepDone};
-ghost use Rattle.playback.specs.declared.Doing.the-variants as Doing;
-use crate::Doing;
-use crate::Playback;
+ghost use Rattle.playback_parts.specs.declared.Doing.the-variants as Doing;
 use crate::Step;
 use crate::Wrote;
-use crate::closing::put_incoming;
-use crate::closing::put_sound;
-use crate::closing::put_times;
-use crate::facts::Facts;
-use crate::facts::Kind;
-use crate::facts::facts_of;
-use crate::parts::Part;
-use crate::parts::put_part;
 use calls::Side;
+use playback_parts::Doing;
+use playback_parts::PIECE;
+use playback_parts::Playback;
+use playback_parts::closing::put_incoming;
+use playback_parts::closing::put_sound;
+use playback_parts::closing::put_times;
+use playback_parts::facts::Facts;
+use playback_parts::facts::Kind;
+use playback_parts::facts::facts_of;
+use playback_parts::parts::Part;
+use playback_parts::parts::put_part;
 use receiver_state::Answered;
 use receiver_state::report::report_of;
 use replaying::acting::Acted;
@@ -29,9 +30,6 @@ use replaying::acting::act;
 use replaying::printing::Left;
 use replaying::printing::begin_line;
 use tape::Found;
-
-// No piece is longer.
-pub const PIECE: usize = 170;
 
 // ---- a call
 

@@ -6,12 +6,12 @@ ghost use lib.ListN.{length};
 ghost use Rattle.playback.specs.Steps.{turnsLeft};
 use libc::STDERR_FILENO;
 use libc::STDOUT_FILENO;
-use playback::Playback;
 use playback::Step;
 use playback::Turn;
-use playback::limits::begin_limited;
-use playback::opening::Beginning;
 use playback::stepping::step;
+use playback_opening::Beginning;
+use playback_opening::limits::begin_limited;
+use playback_parts::Playback;
 
 // A sentence on standard error.
 pub fn say(sentence: &[u8]) {

@@ -4,12 +4,12 @@ ghost use mathlib.Core.Path.{_≡_};
 ghost use Prim.Native.Nat.{_≤_, _<_};
 ghost use lib.ListN.{length};
 ghost use Rattle.playback.specs.Steps.{turnsLeft};
-use playback::Playback;
 use playback::Step;
 use playback::Turn;
-use playback::limits::begin_limited;
-use playback::opening::Beginning;
 use playback::stepping::step;
+use playback_opening::Beginning;
+use playback_opening::limits::begin_limited;
+use playback_parts::Playback;
 
 // Where a comparison is: the steps, and how far their text was as expected.
 pub struct Comparing {

@@ -3,7 +3,7 @@ use mathlib.Core.Path.{refl, sym, _∙_}
 use native.Mathlib.Omega.{arith}
 use lib.ListN.{length}
 use borrow.Author.Tests.{not-true, lt-leb}
-use Rattle.playback.proofs.PartLaws.{values-inside}
+use Rattle.playback.proofs.Walks.{values-inside}
 use Rattle.playback.proofs.Written.{samples-written, values-written, line-b-written, line-i-written, line-c-written}
 use borrow.Author.Needs.{needs}
 use Rattle.playback.proofs.stepping.step.Statement.{statement}
