@@ -10,7 +10,7 @@ use audio_metrics::AudioMetrics;
 
 type Words = [u64; 14];
 
-#[link(name = "audio_metrics", kind = "static")]
+#[link(name = "audio_metrics_words", kind = "static")]
 extern "C" {
     fn audio_metrics_new(state: &mut Words);
     fn audio_metrics_could_be_held(state: &Words) -> bool;

@@ -5,5 +5,5 @@
 # Exit status 0: all equal. The first difference is printed, with the calls that led to it.
 . "$(dirname "$0")/common.sh"
 original "$1"
-libraries audio_metrics
+libraries audio_metrics_words
 run audio_metrics "${2:-1}" "${3:-1000000}"

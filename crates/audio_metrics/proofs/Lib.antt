@@ -1,5 +1,3 @@
 pub mod Signed
 pub mod Probe
 pub mod DelayWords
-pub mod Calls
-pub mod ReadBack

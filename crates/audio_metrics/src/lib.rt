@@ -1,9 +1,6 @@
 // Clock offset, round trip, one-way delay and buffer depths, as rigflow-client/src/audio_metrics.rs keeps them.
 // The state goes in by value and comes back. A number that is not there yet is a case of its own.
 // The functions take what the receiver's questions let through: a held clock, and numbers in the range of question 9.
-pub mod exports;
-pub mod words;
-
 ghost use mathlib.Core.Path.{_≡_};
 ghost use Prim.Native.Nat.{_<_, _≤_, _^_};
 ghost use mathlib.Core.Bool.{true};
@@ -130,7 +127,7 @@ fn one_way_of(recv: u64, send: u64, offset: i64) -> i64
 }
 
 // The bits of a signed number.
-fn as_bits(n: i64) -> u64
+pub fn as_bits(n: i64) -> u64
     ensures { λ r. ⌜ r ≡ bits64 n ⌝ }
 {
     if n >= 0 {

@@ -11,9 +11,9 @@ use lib.Dec.{T, eqb}
 use lib.Ieee.{binary32, fits}
 use Rattle.audio_metrics.specs.declared.AudioMetrics.{AudioMetrics}
 use Rattle.audio_metrics.specs.Views.{clockOf}
-use Rattle.audio_metrics.specs.Words.{clockIn, clockWords}
-use Rattle.audio_metrics.proofs.ReadBack as Clock
-use Rattle.audio_metrics.proofs.ReadBack.{float-read-back, words-read-back}
+use Rattle.audio_metrics_words.specs.Words.{clockIn, clockWords}
+use Rattle.audio_metrics_words.proofs.ReadBack as Clock
+use Rattle.audio_metrics_words.proofs.ReadBack.{float-read-back, words-read-back}
 use Rattle.jitter_buffer.specs.declared.JitterBuffer.{JitterBuffer}
 use Rattle.jitter_buffer.specs.declared.NextSequence.{NextSequence}
 use Rattle.jitter_buffer.specs.declared.NextSequence.the-variants.{NotStarted, Next}

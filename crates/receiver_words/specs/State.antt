@@ -15,7 +15,7 @@ use Rattle.audio_metrics.specs.declared.Jitter.{Jitter}
 use Rattle.audio_metrics.specs.declared.Jitter.the-variants as Jitter
 use Rattle.audio_metrics.specs.declared.AudioMetrics.{AudioMetrics}
 use Rattle.audio_metrics.specs.Views.{clockOf}
-use Rattle.audio_metrics.specs.Words.{clockIn, clockWords}
+use Rattle.audio_metrics_words.specs.Words.{clockIn, clockWords}
 use Rattle.channel.specs.declared.Channel.{Channel}
 use Rattle.receiver_state.specs.declared.Receiver.{Receiver}
 use Rattle.receiver_state.specs.declared.Answer.{Answer}

@@ -5,7 +5,7 @@ use mathlib.Core.List.{List, [], _∷_}
 use lib.ListN.{getD}
 use lib.Dec.{eqb}
 use Rattle.model.specs.Floats.{toBits}
-use Rattle.audio_metrics.specs.Words.{floatIn}
+use Rattle.audio_metrics_words.specs.Words.{floatIn}
 use Rattle.calls.specs.declared.Sizes.{Sizes}
 use Rattle.jitter_buffer.specs.declared.JitterBuffer.{JitterBuffer}
 use Rattle.jitter_buffer.specs.declared.NextSequence.{NextSequence}

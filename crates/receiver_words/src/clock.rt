@@ -1,11 +1,11 @@
-// The clock in 14 words, as in audio_metrics, from a slice that begins with them.
+// The clock in 14 words, as in audio_metrics_words, from a slice that begins with them.
 ghost use mathlib.Core.Path.{_≡_};
 ghost use Prim.Native.Nat.{_≤_};
 ghost use lib.ListN.{length};
 ghost use Rattle.audio_metrics.specs.Views.{clockOf};
-ghost use Rattle.audio_metrics.specs.Words.{clockIn};
+ghost use Rattle.audio_metrics_words.specs.Words.{clockIn};
 use audio_metrics::AudioMetrics;
-use audio_metrics::words::from_words;
+use audio_metrics_words::from_words;
 
 pub fn clock_from(w: &[u64]) -> AudioMetrics
     requires { ⌜ 14 ≤ length (now w) ⌝ }

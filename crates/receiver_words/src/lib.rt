@@ -7,7 +7,7 @@
 //   13..18   stream 2: the same
 //   18..47   channel A: its jitter buffer in 14 words, its screen in 15
 //   47..76   channel B: the same
-//   76..90   the clock, as in audio_metrics
+//   76..90   the clock, as in audio_metrics_words
 //
 //   a jitter buffer: the largest amount, whether it has started, next, the waiting packets, the queued samples, the run,
 //   the seven counters in the struct's order, filled

@@ -12,7 +12,7 @@ use crate::words::counts_from;
 use crate::words::screen_from;
 use crate::words::screen_words;
 use crate::words::sizes_from;
-use audio_metrics::words::to_words;
+use audio_metrics_words::to_words;
 use channel::Channel;
 use numbers::put;
 use receiver_setup::Opening;

@@ -1,5 +1,5 @@
 -- `receiver_words::clock::clock_from` meets its contract: the array has the same words. Assumes nothing.
-use Rattle.audio_metrics.specs.Words.{clockIn}
+use Rattle.audio_metrics_words.specs.Words.{clockIn}
 use borrow.Author.Needs.{needs}
 use Rattle.receiver_words.proofs.clock.clock_from.Statement.{statement}
 use Rattle.receiver_words.proofs.clock.clock_from.Tie as tie

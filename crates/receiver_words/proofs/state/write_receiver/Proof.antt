@@ -3,7 +3,7 @@ use mathlib.Core.Path.{refl}
 use mathlib.Core.List.{_++_}
 use native.Mathlib.Omega.{arith}
 use borrow.Author.Needs.{needs}
-use Rattle.audio_metrics.specs.Words.{clockWords}
+use Rattle.audio_metrics_words.specs.Words.{clockWords}
 use Rattle.receiver_words.specs.State.{headWords, channelWords, receiverWords}
 use Rattle.receiver_words.specs.Words.{countWords, bufferWords, screenWords}
 use Rattle.numbers.proofs.Stored.{then}
