@@ -85,7 +85,7 @@ fn no_call(receiver: Receiver) -> Answered {
 // The first n bytes.
 fn hand_over(r: Receiver, fs: &mut [f32], us: &mut [u32], bytes: &[u8], n: usize) -> Answered {
     if n <= bytes.len() {
-        return receiver::datagrams::handle_media_packet(r, fs, us, &bytes[0..n]);
+        return receiver_datagrams::handle_media_packet(r, fs, us, &bytes[0..n]);
     }
     no_call(r)
 }

@@ -1,4 +1,3 @@
 pub mod ClockCalls
 pub mod SettingCalls
 pub mod PlayCalls
-pub mod DatagramCalls

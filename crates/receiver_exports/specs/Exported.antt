@@ -17,7 +17,8 @@ use Rattle.receiver_state.specs.declared.Answered.{Answered}
 use Rattle.receiver_setup.specs.declared.Opening.{Opening}
 use Rattle.receiver_state.specs.View.{answerOf}
 use Rattle.receiver_state.specs.Promises.{Called}
-use Rattle.receiver.specs.Promises.{PlayedOut, DatagramTaken}
+use Rattle.receiver.specs.Promises.{PlayedOut}
+use Rattle.receiver_datagrams.specs.Promises.{DatagramTaken}
 use Rattle.receiver_setup.specs.Promises.{SetupDone}
 use Rattle.receiver_words.specs.State.{receiverAt, answerWords, stateLeft, setupWords, setupLeft}
 

@@ -95,7 +95,7 @@ pub extern "C" fn receiver_handle_media_packet(
     leave(
         state,
         answer,
-        receiver::datagrams::handle_media_packet(r, fs, us, bytes),
+        receiver_datagrams::handle_media_packet(r, fs, us, bytes),
     );
     true
 }

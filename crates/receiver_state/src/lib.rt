@@ -1,5 +1,5 @@
 // A receiver's state, the questions about it, its readings, and the work on one channel before a call is counted. The state
-// goes in by value and comes back; the two areas are lent. The crate receiver has the calls.
+// goes in by value and comes back; the two areas are lent. The crates receiver and receiver_datagrams have the calls.
 pub mod asking;
 pub mod counted;
 pub mod readings;

@@ -196,7 +196,7 @@ pub(crate) fn datagram(
     expected: u32,
 ) -> Session {
     let before = s.receiver;
-    let answered = receiver::datagrams::handle_media_packet(before, fs, us, bytes);
+    let answered = receiver_datagrams::handle_media_packet(before, fs, us, bytes);
     let receiver = answered.receiver;
     let answer = answered.answer;
     called(s, receiver, answer_word(answer), expected)

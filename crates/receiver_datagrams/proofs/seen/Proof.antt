@@ -1,4 +1,4 @@
--- `receiver::datagrams::seen` meets its contract. Assumes nothing.
+-- `receiver_datagrams::seen` meets its contract. Assumes nothing.
 use native.Mathlib.Omega.{arith}
 use mathlib.Core.Bool.{and-eq-true-iff}
 use lib.ListN.{length}
@@ -6,10 +6,10 @@ use lib.Dec.{leb}
 use borrow.Author.Tests.{leb-true}
 use Rattle.jitter_buffer.proofs.HeldKept.{WordsFit}
 use Rattle.receiver_state.proofs.Lending.{whole-end}
-use Rattle.receiver.proofs.DatagramCalls.{bytes-are, waterfall-fits, incoming-fits, begun-ready, total-asked, none-completed, one-completed}
+use Rattle.receiver_datagrams.proofs.DatagramCalls.{bytes-are, waterfall-fits, incoming-fits, begun-ready, total-asked, none-completed, one-completed}
 use borrow.Author.Needs.{needs}
-use Rattle.receiver.proofs.datagrams.seen.Statement.{statement}
-use Rattle.receiver.proofs.datagrams.seen.Tie as tie
+use Rattle.receiver_datagrams.proofs.seen.Statement.{statement}
+use Rattle.receiver_datagrams.proofs.seen.Tie as tie
 
 counted-on-requires : tie.Need-counted-on-requires
 counted-on-requires c κs =

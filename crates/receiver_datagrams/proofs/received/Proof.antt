@@ -1,8 +1,8 @@
--- `receiver::datagrams::received` meets its contract: questions 6, 7 and 8, and then the stream. Assumes nothing.
-use Rattle.receiver.proofs.DatagramCalls.{bytes-are, too-short, too-long, header-refused, headers-told, length-asked, header-found, header-missing, stream-found}
+-- `receiver_datagrams::received` meets its contract: questions 6, 7 and 8, and then the stream. Assumes nothing.
+use Rattle.receiver_datagrams.proofs.DatagramCalls.{bytes-are, too-short, too-long, header-refused, headers-told, length-asked, header-found, header-missing, stream-found}
 use borrow.Author.Needs.{needs}
-use Rattle.receiver.proofs.datagrams.received.Statement.{statement}
-use Rattle.receiver.proofs.datagrams.received.Tie as tie
+use Rattle.receiver_datagrams.proofs.received.Statement.{statement}
+use Rattle.receiver_datagrams.proofs.received.Tie as tie
 
 parse-media-header-requires : tie.Need-parse-media-header-requires
 parse-media-header-requires c κs = search needs

@@ -39,13 +39,13 @@ use Rattle.reassembler.specs.Rows.{completedOf}
 use Rattle.udp.proofs.CountsHeld.{held-counts-fit, held-incoming-fits}
 use Rattle.receiver_state.specs.declared.Receiver.{Receiver}
 use Rattle.receiver_state.specs.declared.Answer.the-variants as Answer
-use Rattle.receiver.specs.declared.datagrams.Stream.{Stream}
+use Rattle.receiver_datagrams.specs.declared.Stream.{Stream}
 use Rattle.receiver_state.specs.declared.sides.RowsShown.{RowsShown}
 use Rattle.receiver_state.specs.View.{rowPlace, streamPlace, channelAt, stateOf}
-use Rattle.receiver.specs.Promises.{countedOn, modelStream, headerQuestions}
+use Rattle.receiver_datagrams.specs.Promises.{countedOn, modelStream, headerQuestions}
 use Rattle.receiver_state.specs.Fields.{counted, headerSet}
 use Rattle.receiver_state.specs.Promises.{AreasKept, Called, Ready, SidesReady, SideTaken, RowsTaken}
-use Rattle.receiver.specs.Promises.{HeaderReady, DatagramTaken}
+use Rattle.receiver_datagrams.specs.Promises.{HeaderReady, DatagramTaken}
 use Rattle.receiver_state.proofs.CallLaws.{areas-same, own-refused, accepted-called, sides-ready}
 use Rattle.receiver_state.proofs.SideCalls.{channelOn}
 use Rattle.receiver_state.proofs.Lending.{whole-end}

@@ -1,8 +1,8 @@
--- `receiver::datagrams::stream_of` meets its contract. Assumes nothing.
+-- `receiver_datagrams::stream_of` meets its contract. Assumes nothing.
 use borrow.Author.Tests.{ne-eqb}
 use Rattle.model.specs.Framing.{streamOf}
-use Rattle.receiver.proofs.datagrams.stream_of.Statement.{statement}
-use Rattle.receiver.proofs.datagrams.stream_of.Tie as tie
+use Rattle.receiver_datagrams.proofs.stream_of.Statement.{statement}
+use Rattle.receiver_datagrams.proofs.stream_of.Tie as tie
 
 returns : tie.Need-returns
 unfolding streamOf

@@ -1,10 +1,10 @@
--- `receiver::datagrams::handle_media_packet` meets its contract: questions 1 to 4, and then the datagram. Assumes nothing.
+-- `receiver_datagrams::handle_media_packet` meets its contract: questions 1 to 4, and then the datagram. Assumes nothing.
 use Rattle.model.specs.Receiver.{datagram}
 use Rattle.receiver_state.proofs.CallLaws.{early-refused}
-use Rattle.receiver.proofs.DatagramCalls.{bytes-are}
+use Rattle.receiver_datagrams.proofs.DatagramCalls.{bytes-are}
 use borrow.Author.Needs.{needs}
-use Rattle.receiver.proofs.datagrams.handle_media_packet.Statement.{statement}
-use Rattle.receiver.proofs.datagrams.handle_media_packet.Tie as tie
+use Rattle.receiver_datagrams.proofs.handle_media_packet.Statement.{statement}
+use Rattle.receiver_datagrams.proofs.handle_media_packet.Tie as tie
 
 asked-requires : tie.Need-asked-requires
 asked-requires c κs = search needs

@@ -1,10 +1,10 @@
--- `receiver::datagrams::passed_over` meets its contract. Assumes nothing.
+-- `receiver_datagrams::passed_over` meets its contract. Assumes nothing.
 use mathlib.Core.Path.{ap}
 use native.Mathlib.Omega.{arith}
 use Rattle.jitter_buffer.proofs.HeldKept.{WordsFit}
-use Rattle.receiver.proofs.DatagramCalls.{bytes-are, incoming-fits, passed-called}
-use Rattle.receiver.proofs.datagrams.passed_over.Statement.{statement}
-use Rattle.receiver.proofs.datagrams.passed_over.Tie as tie
+use Rattle.receiver_datagrams.proofs.DatagramCalls.{bytes-are, incoming-fits, passed-called}
+use Rattle.receiver_datagrams.proofs.passed_over.Statement.{statement}
+use Rattle.receiver_datagrams.proofs.passed_over.Tie as tie
 
 count-header-requires : tie.Need-count-header-requires
 count-header-requires c κs =

@@ -1,10 +1,10 @@
--- `receiver::datagrams::header_asked` meets its contract: questions 7 and 8, in their order. Assumes nothing.
+-- `receiver_datagrams::header_asked` meets its contract: questions 7 and 8, in their order. Assumes nothing.
 use mathlib.Core.Path.{sym, _∙_}
 use borrow.Author.Tests.{not-true, not-false}
 use Rattle.model.specs.Questions.{firstNo}
 use borrow.Author.Needs.{needs}
-use Rattle.receiver.proofs.datagrams.header_asked.Statement.{statement}
-use Rattle.receiver.proofs.datagrams.header_asked.Tie as tie
+use Rattle.receiver_datagrams.proofs.header_asked.Statement.{statement}
+use Rattle.receiver_datagrams.proofs.header_asked.Tie as tie
 
 is-valid-header-requires : tie.Need-is-valid-header-requires
 is-valid-header-requires c κs = search needs

@@ -1,10 +1,10 @@
--- `receiver::datagrams::heard` meets its contract. Assumes nothing.
+-- `receiver_datagrams::heard` meets its contract. Assumes nothing.
 use native.Mathlib.Omega.{arith}
 use Rattle.jitter_buffer.proofs.HeldKept.{WordsFit}
-use Rattle.receiver.proofs.DatagramCalls.{bytes-are, payload-taken, audio-fits, incoming-fits, begun-ready, heard-called}
+use Rattle.receiver_datagrams.proofs.DatagramCalls.{bytes-are, payload-taken, audio-fits, incoming-fits, begun-ready, heard-called}
 use borrow.Author.Needs.{needs}
-use Rattle.receiver.proofs.datagrams.heard.Statement.{statement}
-use Rattle.receiver.proofs.datagrams.heard.Tie as tie
+use Rattle.receiver_datagrams.proofs.heard.Statement.{statement}
+use Rattle.receiver_datagrams.proofs.heard.Tie as tie
 
 counted-on-requires : tie.Need-counted-on-requires
 counted-on-requires c κs =

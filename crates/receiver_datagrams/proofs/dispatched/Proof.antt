@@ -1,8 +1,8 @@
--- `receiver::datagrams::dispatched` meets its contract: the stream's work is asked for what the header was. Assumes nothing.
+-- `receiver_datagrams::dispatched` meets its contract: the stream's work is asked for what the header was. Assumes nothing.
 use mathlib.Core.Path.{_∙_}
 use borrow.Author.Needs.{needs}
-use Rattle.receiver.proofs.datagrams.dispatched.Statement.{statement}
-use Rattle.receiver.proofs.datagrams.dispatched.Tie as tie
+use Rattle.receiver_datagrams.proofs.dispatched.Statement.{statement}
+use Rattle.receiver_datagrams.proofs.dispatched.Tie as tie
 
 enum-known-stream : tie.Need-enum-known-stream
 enum-known-stream c = search needs

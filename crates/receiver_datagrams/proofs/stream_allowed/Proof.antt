@@ -1,9 +1,9 @@
--- `receiver::datagrams::stream_allowed` meets its contract. Assumes nothing.
+-- `receiver_datagrams::stream_allowed` meets its contract. Assumes nothing.
 use Rattle.model.specs.Questions.{streamAllowed}
 use Rattle.receiver_state.proofs.Lending.{whole-end}
 use borrow.Author.Needs.{needs}
-use Rattle.receiver.proofs.datagrams.stream_allowed.Statement.{statement}
-use Rattle.receiver.proofs.datagrams.stream_allowed.Tie as tie
+use Rattle.receiver_datagrams.proofs.stream_allowed.Statement.{statement}
+use Rattle.receiver_datagrams.proofs.stream_allowed.Tie as tie
 
 enum-told : tie.Need-enum-told
 enum-told c = search needs

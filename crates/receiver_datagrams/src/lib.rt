@@ -1,4 +1,5 @@
-// A datagram: its header, its counts, and its stream's work.
+// The receiver's call for a datagram: its header, its counts, and its stream's work.
+// It asks nothing of its caller: any bytes, areas and state are answered, and a refusal changes nothing.
 ghost use mathlib.Core.Path.{_≡_};
 ghost use lib.ListN.{length};
 ghost use Prim.Native.Nat.{_≤_, min};
@@ -9,7 +10,7 @@ ghost use Rattle.udp.specs.Requires.{CountsFit};
 ghost use Rattle.udp.specs.Views.{countsOf};
 ghost use Rattle.udp_framing.specs.Views.{headerOf};
 ghost use Rattle.receiver_state.specs.Promises.{verdictOf, Ready};
-ghost use Rattle.receiver.specs.Promises.{modelStream, countedOn, headerQuestions, HeaderReady, DatagramTaken};
+ghost use Rattle.receiver_datagrams.specs.Promises.{modelStream, countedOn, headerQuestions, HeaderReady, DatagramTaken};
 use calls::Side;
 use calls::Sizes;
 use reassembler::CompletedRow;

@@ -1,7 +1,7 @@
--- `receiver::datagrams::counted_on` meets its contract. Assumes nothing.
+-- `receiver_datagrams::counted_on` meets its contract. Assumes nothing.
 use borrow.Author.Needs.{needs}
-use Rattle.receiver.proofs.datagrams.counted_on.Statement.{statement}
-use Rattle.receiver.proofs.datagrams.counted_on.Tie as tie
+use Rattle.receiver_datagrams.proofs.counted_on.Statement.{statement}
+use Rattle.receiver_datagrams.proofs.counted_on.Tie as tie
 
 enum-told : tie.Need-enum-told
 enum-told c = search needs
