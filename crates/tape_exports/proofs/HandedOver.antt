@@ -11,8 +11,9 @@ use Rattle.model.specs.Bytes.{all}
 use Rattle.model.specs.Receiver.{Call}
 use Rattle.model.specs.Tape.{read, putCall, putSetup, putEnd}
 use Rattle.model.proofs.BytesLaws.{isByte}
-use Rattle.tape.specs.Answers.{Wrote, verdictOf, setupAnswer}
-use Rattle.tape.specs.declared.Put.{Put}
+use Rattle.tape.specs.Answers.{verdictOf, setupAnswer}
+use Rattle.tape_writer.specs.Answers.{Wrote}
+use Rattle.tape_writer.specs.declared.Put.{Put}
 use Rattle.tape.specs.declared.Setup.{Setup}
 use Rattle.tape.specs.declared.SetupRead.{SetupRead}
 use Rattle.tape.specs.declared.SetupRead.the-variants as setupRead

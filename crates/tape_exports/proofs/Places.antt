@@ -13,11 +13,12 @@ use Rattle.model.specs.Tape.{TapeRead, readTape, badTape, read, wordOf, endWord
 use Rattle.model.proofs.BoolLaws.{by-test, clash}
 use Rattle.model.proofs.BytesLaws.{isByte, length-words-of}
 use Rattle.model.proofs.TapeFirstBad.{first-bad-word}
-use Rattle.tape.specs.Answers.{verdictOf, setupAnswer, answerOf}
+use Rattle.tape.specs.Answers.{verdictOf, setupAnswer}
+use Rattle.tape_writer.specs.Answers.{answerOf}
 use Rattle.tape.specs.declared.Checked.the-variants as checked
 use Rattle.tape.specs.declared.SetupRead.the-variants as setupRead
-use Rattle.tape.specs.declared.Put.the-variants as answer
-use Rattle.tape.proofs.PutLaws.{words-put, words-no-room}
+use Rattle.tape_writer.specs.declared.Put.the-variants as answer
+use Rattle.tape_writer.proofs.PutLaws.{words-put, words-no-room}
 use Rattle.tape_exports.specs.Numbers.{largest}
 
 -- ---- what is read

@@ -13,8 +13,8 @@ use Rattle.tape.specs.declared.Checked.{Checked}
 use Rattle.tape.specs.declared.Checked.the-variants as checked
 use Rattle.tape.specs.declared.Found.{Found}
 use Rattle.tape.specs.declared.Found.the-variants as found
-use Rattle.tape.specs.declared.Put.{Put}
-use Rattle.tape.specs.declared.Put.the-variants as answer
+use Rattle.tape_writer.specs.declared.Put.{Put}
+use Rattle.tape_writer.specs.declared.Put.the-variants as answer
 
 -- ---- a lent slice
 

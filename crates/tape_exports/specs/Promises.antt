@@ -7,8 +7,9 @@ use Rattle.model.specs.Tape.{callAt, read}
 use Rattle.tape.specs.declared.Found.{Found}
 use Rattle.tape.specs.declared.Checked.the-variants as checked
 use Rattle.tape.specs.declared.SetupRead.the-variants as setupRead
-use Rattle.tape.specs.declared.Put.the-variants as answer
-use Rattle.tape.specs.Answers.{IsFound, verdictOf, setupAnswer, answerOf, targetAfter}
+use Rattle.tape_writer.specs.declared.Put.the-variants as answer
+use Rattle.tape.specs.Answers.{IsFound, verdictOf, setupAnswer}
+use Rattle.tape_writer.specs.Answers.{answerOf, targetAfter}
 use Rattle.tape_exports.specs.Numbers.{handed, largest, verdictNumber, setupNumber, setupOut, foundNumbers, putNumber}
 
 -- the verdict on a tape

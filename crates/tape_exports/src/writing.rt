@@ -3,7 +3,7 @@ ghost use mathlib.Core.Path.{_≡_};
 ghost use Rattle.model.specs.Receiver.{datagram, play, reset, set, probe, oneWay, depth, transmitDepth};
 ghost use Rattle.model.specs.Tape.{putSetup, putCall, putEnd};
 ghost use Rattle.calls.specs.Views.{modelSide, modelSettings, modelCounts};
-ghost use Rattle.tape.specs.Answers.{modelSetup};
+ghost use Rattle.tape_writer.specs.Answers.{modelSetup};
 ghost use Rattle.tape_exports.specs.Numbers.{sideNamed, putNumber};
 ghost use Rattle.tape_exports.specs.Promises.{PutHanded};
 use calls::DepthCounts;
@@ -11,8 +11,7 @@ use calls::Estimates;
 use calls::Settings;
 use calls::Side;
 use calls::Sizes;
-use tape::Put;
-use tape::writer;
+use tape_writer::Put;
 
 // 0 is channel A and any other number B.
 fn side_of(n: u64) -> Side
@@ -39,21 +38,21 @@ fn answer(p: Put) -> u64
 pub extern "C" fn tape_put_datagram(target: &mut [u8], place: usize, bytes: &[u8]) -> u64
     ensures { λ r. ⌜ PutHanded (putCall place (datagram (now (bytes .entry))) (now (target .entry))) (now (target .entry)) (now (target .exit)) r ⌝ }
 {
-    answer(writer::put_datagram(target, place, bytes))
+    answer(tape_writer::put_datagram(target, place, bytes))
 }
 
 #[no_mangle]
 pub extern "C" fn tape_put_play(target: &mut [u8], place: usize, side: u64, samples: usize) -> u64
     ensures { λ r. ⌜ PutHanded (putCall place (play (modelSide (sideNamed side)) samples) (now (target .entry))) (now (target .entry)) (now (target .exit)) r ⌝ }
 {
-    answer(writer::put_play(target, place, side_of(side), samples))
+    answer(tape_writer::put_play(target, place, side_of(side), samples))
 }
 
 #[no_mangle]
 pub extern "C" fn tape_put_reset(target: &mut [u8], place: usize, side: u64) -> u64
     ensures { λ r. ⌜ PutHanded (putCall place (reset (modelSide (sideNamed side))) (now (target .entry))) (now (target .entry)) (now (target .exit)) r ⌝ }
 {
-    answer(writer::put_reset(target, place, side_of(side)))
+    answer(tape_writer::put_reset(target, place, side_of(side)))
 }
 
 #[no_mangle]
@@ -76,7 +75,7 @@ pub extern "C" fn tape_put_set(
         zoom,
         smoothing,
     };
-    answer(writer::put_set(target, place, side_of(side), x))
+    answer(tape_writer::put_set(target, place, side_of(side), x))
 }
 
 #[no_mangle]
@@ -90,14 +89,14 @@ pub extern "C" fn tape_put_probe(
 ) -> u64
     ensures { λ r. ⌜ PutHanded (putCall place (probe t1 t2 t3 t4) (now (target .entry))) (now (target .entry)) (now (target .exit)) r ⌝ }
 {
-    answer(writer::put_probe(target, place, t1, t2, t3, t4))
+    answer(tape_writer::put_probe(target, place, t1, t2, t3, t4))
 }
 
 #[no_mangle]
 pub extern "C" fn tape_put_one_way(target: &mut [u8], place: usize, receive: u64, send: u64) -> u64
     ensures { λ r. ⌜ PutHanded (putCall place (oneWay receive send) (now (target .entry))) (now (target .entry)) (now (target .exit)) r ⌝ }
 {
-    answer(writer::put_one_way(target, place, receive, send))
+    answer(tape_writer::put_one_way(target, place, receive, send))
 }
 
 #[no_mangle]
@@ -118,21 +117,21 @@ pub extern "C" fn tape_put_depth(
         overflow,
         resyncs,
     };
-    answer(writer::put_depth(target, place, samples, k))
+    answer(tape_writer::put_depth(target, place, samples, k))
 }
 
 #[no_mangle]
 pub extern "C" fn tape_put_transmit_depth(target: &mut [u8], place: usize, samples: usize) -> u64
     ensures { λ r. ⌜ PutHanded (putCall place (transmitDepth samples) (now (target .entry))) (now (target .entry)) (now (target .exit)) r ⌝ }
 {
-    answer(writer::put_transmit_depth(target, place, samples))
+    answer(tape_writer::put_transmit_depth(target, place, samples))
 }
 
 #[no_mangle]
 pub extern "C" fn tape_put_end(target: &mut [u8], place: usize) -> u64
     ensures { λ r. ⌜ PutHanded (putEnd place (now (target .entry))) (now (target .entry)) (now (target .exit)) r ⌝ }
 {
-    answer(writer::put_end(target, place))
+    answer(tape_writer::put_end(target, place))
 }
 
 #[no_mangle]
@@ -172,5 +171,5 @@ pub extern "C" fn tape_put_setup(
         floor: b2,
         range: b3,
     };
-    answer(writer::put_setup(target, place, z, a, b))
+    answer(tape_writer::put_setup(target, place, z, a, b))
 }

@@ -11,10 +11,9 @@ use calls::DepthCounts;
 use calls::Settings;
 use calls::Side;
 use tape::Found;
-use tape::Put;
 use tape::SetupRead;
 use tape::reader;
-use tape::writer;
+use tape_writer::Put;
 
 fn is_b(side: Side) -> bool {
     match side {
@@ -229,13 +228,13 @@ fn too_large(t: &mut [u8], tally: Tally) -> Tally {
     let now = numbers(
         tally,
         b"play of 65536 samples at 16",
-        refused_at(writer::put_play(t, 16, Side::A, 65536)),
+        refused_at(tape_writer::put_play(t, 16, Side::A, 65536)),
         16,
     );
     numbers(
         now,
         b"transmit depth of 4294967296 at 54",
-        refused_at(writer::put_transmit_depth(t, 54, 4294967296)),
+        refused_at(tape_writer::put_transmit_depth(t, 54, 4294967296)),
         54,
     )
 }
@@ -245,19 +244,19 @@ fn no_room(t: &mut [u8], tally: Tally) -> Tally {
     let now = numbers(
         tally,
         b"end at the largest place",
-        refused_at(writer::put_end(t, 18446744073709551615)),
+        refused_at(tape_writer::put_end(t, 18446744073709551615)),
         2,
     );
     let now = numbers(
         now,
         b"end behind the target",
-        refused_at(writer::put_end(t, 64)),
+        refused_at(tape_writer::put_end(t, 64)),
         2,
     );
     numbers(
         now,
         b"end in the target's last word",
-        after(writer::put_end(t, 63)) as u64,
+        after(tape_writer::put_end(t, 63)) as u64,
         64,
     )
 }

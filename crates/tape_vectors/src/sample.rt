@@ -4,8 +4,7 @@ use calls::Estimates;
 use calls::Settings;
 use calls::Side;
 use calls::Sizes;
-use tape::Put;
-use tape::writer;
+use tape_writer::Put;
 
 // The place after what was written.
 pub fn after(p: Put) -> usize {
@@ -44,17 +43,17 @@ pub fn settings(adaptive: bool) -> Settings {
 // Places 13 to 17: a datagram of 5 bytes and two plays.
 fn datagram_and_plays(t: &mut [u8], place: usize) -> usize {
     let bytes = [1u8, 2, 3, 4, 5];
-    let p = after(writer::put_datagram(t, place, &bytes));
-    let p = after(writer::put_play(t, p, Side::A, 2));
-    after(writer::put_play(t, p, Side::B, 65535))
+    let p = after(tape_writer::put_datagram(t, place, &bytes));
+    let p = after(tape_writer::put_play(t, p, Side::A, 2));
+    after(tape_writer::put_play(t, p, Side::B, 65535))
 }
 
 // Places 18 to 29: two resets and two sets.
 fn resets_and_sets(t: &mut [u8], place: usize) -> usize {
-    let p = after(writer::put_reset(t, place, Side::A));
-    let p = after(writer::put_reset(t, p, Side::B));
-    let p = after(writer::put_set(t, p, Side::A, settings(false)));
-    after(writer::put_set(t, p, Side::B, settings(true)))
+    let p = after(tape_writer::put_reset(t, place, Side::A));
+    let p = after(tape_writer::put_reset(t, p, Side::B));
+    let p = after(tape_writer::put_set(t, p, Side::A, settings(false)));
+    after(tape_writer::put_set(t, p, Side::B, settings(true)))
 }
 
 fn channel_calls(t: &mut [u8], place: usize) -> usize {
@@ -70,15 +69,15 @@ fn clock_calls(t: &mut [u8], place: usize) -> usize {
         overflow: 18446744073709551615,
         resyncs: 4294967297,
     };
-    let p = after(writer::put_probe(t, place, 1, 4294967298, 18446744073709551615, 0));
-    let p = after(writer::put_one_way(t, p, 12884901892, 5));
-    let p = after(writer::put_depth(t, p, 4294967295, counts));
-    after(writer::put_transmit_depth(t, p, 7))
+    let p = after(tape_writer::put_probe(t, place, 1, 4294967298, 18446744073709551615, 0));
+    let p = after(tape_writer::put_one_way(t, p, 12884901892, 5));
+    let p = after(tape_writer::put_depth(t, p, 4294967295, counts));
+    after(tape_writer::put_transmit_depth(t, p, 7))
 }
 
 // Every kind of call, in 228 bytes.
 pub fn every_call(t: &mut [u8]) -> usize {
-    let p = after(writer::put_setup(
+    let p = after(tape_writer::put_setup(
         t,
         0,
         small_sizes(),
@@ -87,7 +86,7 @@ pub fn every_call(t: &mut [u8]) -> usize {
     ));
     let p = channel_calls(t, p);
     let p = clock_calls(t, p);
-    after(writer::put_end(t, p))
+    after(tape_writer::put_end(t, p))
 }
 
 // The small tape, in 84 bytes.
@@ -114,8 +113,14 @@ pub fn small(t: &mut [u8]) -> usize {
         0x01,
         0x80,
     ];
-    let p = after(writer::put_setup(t, 0, small_sizes(), estimates(0, 0, 0), estimates(0, 0, 0)));
-    let p = after(writer::put_datagram(t, p, &bytes));
-    let p = after(writer::put_play(t, p, Side::A, 2));
-    after(writer::put_end(t, p))
+    let p = after(tape_writer::put_setup(
+        t,
+        0,
+        small_sizes(),
+        estimates(0, 0, 0),
+        estimates(0, 0, 0),
+    ));
+    let p = after(tape_writer::put_datagram(t, p, &bytes));
+    let p = after(tape_writer::put_play(t, p, Side::A, 2));
+    after(tape_writer::put_end(t, p))
 }
