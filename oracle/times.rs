@@ -24,7 +24,7 @@ const ESTIMATES: [f32; 6] = [-20.0, -110.0, 70.0, -20.0, -110.0, 70.0];
 
 struct Rounds {
     sizes: [usize; 6],
-    // before the rounds, and in each
+    // in each round
     calls: Vec<Call>,
 }
 
@@ -229,7 +229,7 @@ fn main() {
     }
     println!("{:<52} {:>10} {:>10.2}", "  the last row's moves alone", "", moves() / 1e3);
     let many = sound([1, 65_536, 131_072]);
-    let one = Rounds { sizes: many.sizes, calls: vec![many.calls[0].clone()] };
+    let one = Rounds { sizes: [1, 65_536, 131_072, 1, 1, 1], calls: vec![many.calls[0].clone()] };
     let tape = one.tape();
     let mut best = [f64::MAX; 2];
     for _ in 0..3 {
@@ -259,7 +259,7 @@ fn main() {
     let other = datagram(9, &[0; 8]);
     let probe = Call::Probe([1_000_000_000, 1_000_050_000, 1_000_060_000, 1_000_120_000]);
     for (name, call) in [
-        ("a call of a tape, found and passed over", Call::OneWay([0, 0])),
+        ("a one-way time with no offset, which is ignored", Call::OneWay([0, 0])),
         ("a datagram of no bytes: the questions", Call::Datagram(vec![])),
         ("a datagram of another type", other),
         ("a reset", Call::Reset(0)),
