@@ -2,13 +2,14 @@
 use mathlib.Core.Path.{_≡_, sym, _∙_, ap}
 use mathlib.Core.List.{List, [], _∷_, _++_, append-assoc}
 use Prim.Native.Nat.{ℕ, suc, _+_, _-_, _≤_, _<_}
-use native.Mathlib.Nat.{add-zero}
+use native.Mathlib.Nat.{add-zero, add-assoc}
 use native.Mathlib.Numerals.{add-one}
 use native.Mathlib.Omega.{arith}
 use lib.ListN.{length, take, drop, getD, set, replicate, length-append, length-take, length-drop, take-append-drop, List·getD-append, getD-replicate, length-replicate}
-use lib.Seq.{take-suc, drop-cons, set-at, getD-append-add, getD-drop, getD-take, length-take-le, ext-getD}
+use lib.Seq.{take-suc, take-all, take-at, take-add, take-take, take-append-le, drop-cons, drop-at, drop-drop, drop-append-add, set-at, getD-append-add, getD-drop, getD-take, length-take-le, ext-getD}
 use Rattle.model.specs.Bytes.{part, placed}
 use Rattle.model.proofs.ListLaws.{placed-length}
+use Rattle.areas.specs.Parts.{moved}
 
 module _ {ℓ} {A : Type ℓ} where
   -- ---- parts
@@ -108,16 +109,6 @@ module _ {ℓ} {A : Type ℓ} where
       let front : length (take i ys) ≡ i = length-take-le i ys (omega arith) in
       rw (add-one i, take-suc ys i d h) (rw front at (placed-more at (take i ys) xs (getD ys i d) (omega arith)))
 
-  pub placed-down : (d : A) (at i : ℕ) (ys xs : List A) → i < length ys → at + length ys ≤ length xs
-      → set (placed (at + (i + 1)) (drop (i + 1) ys) xs) (at + i) (getD ys i d) ≡ placed (at + i) (drop i ys) xs
-  unfolding placed
-  placed-down d at i ys xs h fits =
-      let here : at + i < length xs = omega arith in
-      let head : length (take (at + i) xs) ≡ at + i = length-take-le (at + i) xs (omega arith) in
-      let step : at + (i + 1) ≡ suc (at + i) = omega arith in
-      let seam : suc (at + i) + length (drop (suc i) ys) ≡ at + i + length (drop i ys) = simp length-drop (omega arith) in
-      rw (step, add-one i, seam, take-suc xs (at + i) d here, append-assoc, set-at _ _ _ _ _ head, drop-cons ys i d h)
-
   -- ---- fills
 
   pub take-replicate : (i n : ℕ) (x : A) → i ≤ n → take i (replicate n x) ≡ replicate i x
@@ -127,24 +118,71 @@ module _ {ℓ} {A : Type ℓ} where
       let kq : k < i = omega arith in
       rw (getD-take i (replicate n x) k x kq, getD-replicate n k x x (omega arith), getD-replicate i k x x kq))
 
+  -- ---- some writes more
+
+  -- what is written first and what is written behind it are written together
+  placed-after : (at : ℕ) (ys zs xs : List A) → at + length ys ≤ length xs → placed (at + length ys) zs (placed at ys xs) ≡ placed at (ys ++ zs) xs
+  unfolding placed
+  placed-after at ys zs xs fits =
+      let front : length (take at xs ++ ys) ≡ at + length ys = simp (length-append, length-take) (omega arith) in
+      let behind : drop (at + length ys + length zs) ((take at xs ++ ys) ++ drop (at + length ys) xs) ≡ drop (at + length ys + length zs) xs =
+      rw (ap (λ (n : ℕ). n + length zs) (sym front), drop-append-add (take at xs ++ ys) (drop (at + length ys) xs) (length zs), drop-drop (length zs) (at + length ys) xs, front) in
+      rw (
+        ← append-assoc (take at xs) ys (drop (at + length ys) xs),
+        take-at (take at xs ++ ys) (drop (at + length ys) xs) (at + length ys) front,
+        behind,
+        length-append ys zs,
+        append-assoc (take at xs) ys,
+        append-assoc ys zs,
+        ← add-assoc at (length ys) (length zs),
+      )
+
+  -- and so are what is written first and what is written before it
+  placed-ahead : (at : ℕ) (ys zs xs : List A) → at + length ys ≤ length xs → placed at ys (placed (at + length ys) zs xs) ≡ placed at (ys ++ zs) xs
+  unfolding placed
+  placed-ahead at ys zs xs fits =
+      let l : length (take (at + length ys) xs) ≡ at + length ys = length-take-le (at + length ys) xs fits in
+      rw (
+        take-append-le at (take (at + length ys) xs) (zs ++ drop (at + length ys + length zs) xs) (omega arith),
+        take-take at (at + length ys) xs (omega arith),
+        drop-at (take (at + length ys) xs) (zs ++ drop (at + length ys + length zs) xs) (at + length ys) l,
+        length-append ys zs,
+        append-assoc ys zs,
+        ← add-assoc at (length ys) (length zs),
+      )
+
+  -- a part in two
+  part-add : (from i k : ℕ) (xs : List A) → part from (i + k) xs ≡ part from i xs ++ part (from + i) k xs
+  part-add from i k xs = rw (take-add i k (drop from xs), drop-drop i from xs)
+
   -- ---- moves
 
-  pub move-down-step : (d : A) (from to n i : ℕ) (xs : List A) → to ≤ from → from + n ≤ length xs → i < n
-      → set (placed to (take i (part from n xs)) xs) (to + i) (getD (placed to (take i (part from n xs)) xs) (from + i) d)
-      ≡ placed to (take (i + 1) (part from n xs)) xs
-  move-down-step d from to n i xs le fits h =
-      let l = part-length from n xs fits in
-      let front : length (take i (part from n xs)) ≡ i = length-take-le i (part from n xs) (omega arith) in
-      rw (placed-behind d to (take i (part from n xs)) xs (from + i) (omega arith) (omega arith), ← getD-part d from n xs i h)
-      (placed-up d to i (part from n xs) xs (omega arith) (omega arith))
+  -- through a list that keeps them
+  pub kept-then-placed : (d : A) (from to n : ℕ) (ys kept xs : List A) → from + n ≤ length ys → n ≤ length kept
+      → placed to (part 0 n (placed 0 (part from n ys) kept)) xs ≡ placed to (part from n ys) xs
+  kept-then-placed d from to n ys kept xs fits room =
+      let l = part-length from n ys fits in
+      rw (part-within d 0 (part from n ys) kept 0 n (omega arith) (omega arith)) (ap (λ (zs : List A). placed to zs xs) (take-all n (part from n ys) (omega arith)))
 
-  pub move-up-step : (d : A) (from to n i : ℕ) (xs : List A) → from ≤ to → to + n ≤ length xs → i < n
-      → set (placed (to + (i + 1)) (drop (i + 1) (part from n xs)) xs) (to + i) (getD (placed (to + (i + 1)) (drop (i + 1) (part from n xs)) xs) (from + i) d)
-      ≡ placed (to + i) (drop i (part from n xs)) xs
-  move-up-step d from to n i xs le fits h =
-      let l = part-length from n xs (omega arith) in
-      rw (placed-before d (to + (i + 1)) (drop (i + 1) (part from n xs)) xs (from + i) (omega arith) (omega arith), ← getD-part d from n xs i h)
-      (placed-down d to i (part from n xs) xs (omega arith) (omega arith))
+  pub copy-further : (from to i k : ℕ) (ys xs : List A) → from + (i + k) ≤ length ys → to + (i + k) ≤ length xs
+      → placed (to + i) (part (from + i) k ys) (placed to (part from i ys) xs) ≡ placed to (part from (i + k) ys) xs
+  copy-further from to i k ys xs fits room =
+      let l = part-length from i ys (omega arith) in
+      rw (part-add from i k ys) (rw l at (placed-after to (part from i ys) (part (from + i) k ys) xs (omega arith)))
+
+  pub move-down-further : (d : A) (from to i k : ℕ) (xs : List A) → to ≤ from → from + (i + k) ≤ length xs
+      → moved (from + i) (to + i) k (moved from to i xs) ≡ moved from to (i + k) xs
+  move-down-further d from to i k xs le fits =
+      let l = part-length from i xs (omega arith) in
+      rw (part-behind d to (part from i xs) xs (from + i) k (omega arith) (omega arith)) (copy-further from to i k xs xs fits (omega arith))
+
+  pub move-up-further : (d : A) (from to k n : ℕ) (xs : List A) → from ≤ to → to + (k + n) ≤ length xs
+      → moved from to k (moved (from + k) (to + k) n xs) ≡ moved from to (k + n) xs
+  move-up-further d from to k n xs le fits =
+      let l = part-length from k xs (omega arith) in
+      let m = part-length (from + k) n xs (omega arith) in
+      rw (part-before d (to + k) (part (from + k) n xs) xs from k (omega arith) (omega arith), part-add from k n xs)
+      (rw l at (placed-ahead to (part from k xs) (part (from + k) n xs) xs (omega arith)))
 
   pub copy-step : (d : A) (from to n i : ℕ) (ys xs : List A) → from + n ≤ length ys → to + n ≤ length xs → i < n
       → set (placed to (take i (part from n ys)) xs) (to + i) (getD ys (from + i) d) ≡ placed to (take (i + 1) (part from n ys)) xs

@@ -1,41 +1,39 @@
--- `areas::move_down_u32` meets its contract. The loop's invariant: i elements are written again. Assumes nothing.
+-- `areas::move_down_u32` meets its contract. The loop's invariant: i elements are written. Assumes nothing.
 use mathlib.Core.Path.{_≡_, refl, sym, _∙_, ap}
-use Prim.Native.Nat.{ℕ, _≤_, _-_, _+_}
+use Prim.Native.Nat.{ℕ, _+_, _-_, _≤_}
 use native.Mathlib.Omega.{arith}
-use lib.ListN.{length, take, length-set}
-use Rattle.model.specs.Bytes.{part, placed}
+use borrow.Author.Needs.{needs}
 use mathlib.Core.List.{[]}
-use lib.Seq.{take-all}
-use Rattle.areas.proofs.Placed.{part-length, placed-none, move-down-step}
+use lib.ListN.{length}
+use Rattle.model.specs.Bytes.{part, placed}
+use Rattle.areas.specs.Parts.{moved}
+use Rattle.areas.proofs.Placed.{placed-none, move-down-further}
 use Rattle.areas.proofs.move_down_u32.Statement.{statement}
 use Rattle.areas.proofs.move_down_u32.Tie as tie
 
 abbrev Inv-loop : tie.InvT-loop
-Inv-loop a₀ from to n i₀ a i = (i ≤ n) × (a ≡ placed to (take i (part from n a₀)) a₀) × (length a ≡ length a₀)
+Inv-loop a₀ from to n i₀ a i = (i ≤ n) × (a ≡ moved from to i a₀) × (length a ≡ length a₀)
 
 abbrev μ-loop : tie.MeasureT-loop
 μ-loop a₀ from to n i₀ a i = n - i
 
 loop-holds : tie.Need-loop-holds Inv-loop μ-loop
-loop-holds c = (omega arith, placed-none (c .args .to) [] (c .args .us .now) refl, refl)
+loop-holds c = (omega arith, placed-none (c .before .args .to) [] (c .before .args .us .now) refl, refl)
 
-add-us : tie.Need-add-us Inv-loop μ-loop
-add-us c = omega arith
+sub-few-of : tie.Need-sub-few-of Inv-loop μ-loop
+sub-few-of c = omega arith
 
-mul-us : tie.Need-mul-us Inv-loop μ-loop
-mul-us c = omega (arith, c .before .before .good .0 .1)
+few-of-requires : tie.Need-few-of-requires Inv-loop μ-loop
+few-of-requires c κs = omega arith
 
-slice-read-us : tie.Need-slice-read-us Inv-loop μ-loop
-slice-read-us c = omega arith
+add-few : tie.Need-add-move-few-u32 Inv-loop μ-loop
+add-few c = omega arith
 
-add-us-2 : tie.Need-add-us-2 Inv-loop μ-loop
-add-us-2 c = omega arith
+add-few-2 : tie.Need-add-move-few-u32-2 Inv-loop μ-loop
+add-few-2 c = omega arith
 
-mul-us-2 : tie.Need-mul-us-2 Inv-loop μ-loop
-mul-us-2 c = omega (arith, c .before .before .before .good .0 .1)
-
-slice-write-us : tie.Need-slice-write-us Inv-loop μ-loop
-slice-write-us c = omega arith
+few-requires : tie.Need-move-few-u32-requires Inv-loop μ-loop
+few-requires c κs = search needs
 
 add-i : tie.Need-add-i Inv-loop μ-loop
 add-i c = omega arith
@@ -45,12 +43,11 @@ loop-less c = omega arith
 
 loop-again : tie.Need-loop-again Inv-loop μ-loop
 loop-again c =
-    let k = c .before .before in
-    let g = k .before .args in
-    let e = k .loop .inv .1 in (
+    let k = c .before .before .before .before .before .before in
+    let g = k .before .before .args in (
       omega arith,
-      rw e (move-down-step 0 (g .from) (g .to) (g .n) (k .loop .i) (g .us .now) (omega arith) (omega arith) (omega arith)),
-      simp length-set (k .loop .inv .2),
+      c .before .before .move-few-u32 .ensures ∙ rw (k .loop .inv .1) (move-down-further 0 (g .from) (g .to) (k .loop .i) (c .before .before .before .before .few-of .result) (g .us .now) (omega arith) (omega arith)),
+      search needs,
     )
 
 same-length : tie.Need-same-length Inv-loop μ-loop
@@ -58,26 +55,8 @@ same-length c = c .before .loop .inv .2
 
 returns : tie.Need-returns Inv-loop μ-loop
 returns c =
-    let g = c .before .before .args in
-    let all : take (c .before .loop .i) (part (g .from) (g .n) (g .us .now)) ≡ part (g .from) (g .n) (g .us .now) =
-    take-all (c .before .loop .i) _ (omega (arith, part-length (g .from) (g .n) (g .us .now) (omega arith))) in
+    let all : c .before .loop .i ≡ c .before .before .before .args .n = omega arith in
     rw all at (c .before .loop .inv .1)
 
 pub move-down-u32-spec : {M : Type 1} → statement M
-move-down-u32-spec =
-    tie.close
-    (tie.spec
-    Inv-loop
-    μ-loop
-    loop-holds
-    add-us
-    mul-us
-    slice-read-us
-    add-us-2
-    mul-us-2
-    slice-write-us
-    add-i
-    loop-less
-    loop-again
-    same-length
-    returns)
+move-down-u32-spec = tie.close (tie.spec Inv-loop μ-loop loop-holds sub-few-of few-of-requires add-few add-few-2 few-requires add-i loop-less loop-again same-length returns)
