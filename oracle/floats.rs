@@ -16,6 +16,7 @@ extern "C" {
     fn floats_as_u32(x: f32) -> u32;
     fn floats_as_usize(x: f32) -> usize;
     fn floats_round(x: f32) -> f32;
+    fn floats_round_to_u8(x: f32) -> u8;
     fn floats_nearest_i64_to_f32(n: i64) -> f32;
 }
 
@@ -97,6 +98,7 @@ fn one_float(b: u32) {
         hold("as_u8", &case, floats_as_u8(x) as u64, x as u8 as u64);
         hold("as_u32", &case, floats_as_u32(x) as u64, x as u32 as u64);
         hold("as_usize", &case, floats_as_usize(x) as u64, x as usize as u64);
+        hold("round_to_u8", &case, floats_round_to_u8(x) as u64, x.round() as u8 as u64);
         hold("round", &case, pattern_of(floats_round(x)), pattern_of(x.round()));
     }
 }

@@ -2,9 +2,8 @@
 use mathlib.Core.Path.{_≡_, refl, sym, ap, _∙_}
 use mathlib.Core.Bool.{Bool, true, false, cond}
 use Prim.Native.Nat.{ℕ, zero, suc, _+_, _*_, _^_}
-use lib.IntN.{pos, negsuc}
 use lib.Dec.{ltb}
-use lib.Ieee.{inf, Format, prec, emax, low, odd, units, round, neg, ofInt}
+use lib.Ieee.{inf, Format, prec, emax, low, odd, units, round, neg}
 use lib.Ieee.Fits.{round-is}
 
 neg-odd : (d q k l : ℕ) → neg (odd d false q k l) ≡ odd d true q k l
@@ -22,7 +21,3 @@ neg-units f q k = go (ltb (q * 2 ^ k) (2 ^ (low f + suc (emax f))))
 
 pub neg-round : (f : Format) (num den : ℕ) → neg (round f false num den) ≡ round f true num den
 neg-round f num den = ap neg (round-is f false num den) ∙ neg-units f _ _ ∙ sym (round-is f true num den)
-
-pub neg-ofInt : (f : Format) (n : ℕ) → neg (ofInt f (pos (suc n))) ≡ ofInt f (negsuc n)
-unfolding ofInt
-neg-ofInt f n = neg-round f (suc n) 1

@@ -79,3 +79,10 @@ pub extern "C" fn floats_nearest_i64_to_f32(n: i64) -> f32
 {
     crate::nearest_i64_to_f32(n)
 }
+
+#[no_mangle]
+pub extern "C" fn floats_round_to_u8(x: f32) -> u8
+    ensures { λ r. ⌜ r ≡ asUnsigned 8 (roundHalfAway x) ⌝ }
+{
+    crate::round_to_u8(x)
+}

@@ -66,11 +66,9 @@ pub fn sample(lo: u8, hi: u8) -> f32
     ensures { λ r. ⌜ r ≡ sample lo hi ⌝ }
 {
     let b = (lo as u32) + 256 * (hi as u32);
-    if b < 0x8000 {
-        std::num::nearest_u32_to_f32(b) / 32767.0
-    } else {
-        -std::num::nearest_u32_to_f32(0x1_0000 - b) / 32767.0
-    }
+    let above = (b + 0x8000) % 0x1_0000;
+    let x = ((above as i32) - 0x8000) as i16;
+    (x as f32) / 32767.0
 }
 
 // x without its fraction, as a u8: what lies outside goes to the nearest end, and a NaN to 0.

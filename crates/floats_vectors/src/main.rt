@@ -68,6 +68,12 @@ fn to_u8(t: Tally, name: &[u8], x: u32, expected: u8) -> Tally {
     finish(t, found as u64, expected as u64)
 }
 
+fn rounded_to_u8(t: Tally, name: &[u8], x: u32, expected: u8) -> Tally {
+    start(b"rounded to u8 ", name);
+    let found = floats::round_to_u8(floats::from_bits(x));
+    finish(t, found as u64, expected as u64)
+}
+
 fn to_u32(t: Tally, name: &[u8], x: u32, expected: u32) -> Tally {
     start(b"u32 ", name);
     let found = floats::as_u32(floats::from_bits(x));
@@ -213,6 +219,33 @@ fn casts_to_u8(mut t: Tally) -> Tally {
     t
 }
 
+// Rounded before the cast: `x.round() as u8`.
+fn rounded_to_u8_below_256(mut t: Tally) -> Tally {
+    t = rounded_to_u8(t, b"0.49999997", 0x3eff_ffff, 0);
+    t = rounded_to_u8(t, b"0.5", 0x3f00_0000, 1);
+    t = rounded_to_u8(t, b"-0.5", 0xbf00_0000, 0);
+    t = rounded_to_u8(t, b"1.5", 0x3fc0_0000, 2);
+    t = rounded_to_u8(t, b"2.5", 0x4020_0000, 3);
+    t = rounded_to_u8(t, b"126.49999", 0x42fc_ffff, 126);
+    t = rounded_to_u8(t, b"127.5", 0x42ff_0000, 128);
+    t = rounded_to_u8(t, b"254.5", 0x437e_8000, 255);
+    t = rounded_to_u8(t, b"254.49998", 0x437e_7fff, 254);
+    t
+}
+
+fn rounded_to_u8_at_the_ends(mut t: Tally) -> Tally {
+    t = rounded_to_u8(t, b"255.5", 0x437f_8000, 255);
+    t = rounded_to_u8(t, b"300", 0x4396_0000, 255);
+    t = rounded_to_u8(t, b"8388607.5", 0x4aff_ffff, 255);
+    t = rounded_to_u8(t, b"2^23", 0x4b00_0000, 255);
+    t = rounded_to_u8(t, b"infinity", 0x7f80_0000, 255);
+    t = rounded_to_u8(t, b"-infinity", 0xff80_0000, 0);
+    t = rounded_to_u8(t, b"a NaN", 0x7fc0_0000, 0);
+    t = rounded_to_u8(t, b"-1", 0xbf80_0000, 0);
+    t = rounded_to_u8(t, b"-0", 0x8000_0000, 0);
+    t
+}
+
 // The same to u32: `x as u32`.
 fn casts_to_u32(mut t: Tally) -> Tally {
     t = to_u32(t, b"2^24", 0x4b80_0000, 0x100_0000);
@@ -306,6 +339,8 @@ fn main() {
     t = halves(t);
     t = rounding_at_the_edges(t);
     t = casts_to_u8(t);
+    t = rounded_to_u8_below_256(t);
+    t = rounded_to_u8_at_the_ends(t);
     t = casts_to_u32(t);
     t = casts_to_usize(t);
     t = samples(t);

@@ -1,15 +1,20 @@
--- `floats::sample` meets its contract. A pattern from 8000 on stands for what is missing to 10000, with the sign put on after the rounding.
--- Assumes nothing.
+-- `floats::sample` meets its contract. A pattern that is turned by half its range tells how far the signed number is above the lowest one,
+-- and every such number is a float. Assumes nothing.
 use mathlib.Core.Path.{_≡_, refl, sym, ap, ap₂, _∙_}
 use mathlib.Core.Bool.{Bool, cond}
-use Prim.Native.Nat.{ℕ, suc, _+_, _-_, _*_, _<_, _≤_}
+use Prim.Native.Nat.{ℕ, suc, _+_, _-_, _*_, _%_, _<_, _≤_}
 use native.Mathlib.Omega.{arith}
 use borrow.Author.Needs.{needs}
-use borrow.Author.Tests.{lt-ltb, le-ltb}
-use lib.IntN.{pos, negsuc}
-use lib.Ieee.{Float, binary32, div, neg, ofInt, ofBits}
+use borrow.Author.Tests.{lt-ltb, le-ltb, ltb-true, ltb-false}
+use lib.IntN.{ℤ, pos, negsuc, subℕ, _-ℤ_}
+use lib.Dec.{ltb}
+use lib.Signed.{mag}
+use lib.Ieee.{Float, binary32, div, ofInt, ofBits}
+use mir.Syntax.{w16, w32}
+use mir.Val.{SFits, toZ, ofZ}
+use mir.ValLaws.{toZ-pos, toZ-ofZ}
 use Rattle.model.specs.Floats.{nearest, natf, signed16, sample}
-use Rattle.floats.proofs.Sign.{neg-ofInt}
+use Rattle.model.proofs.BoolLaws.{by-test}
 use Rattle.floats.proofs.sample.Statement.{statement}
 use Rattle.floats.proofs.sample.Tie as tie
 
@@ -18,24 +23,46 @@ divisor : ofBits binary32 0x46ff_fe00 ≡ natf 32767
 unfolding ofBits ofInt
 divisor = refl
 
--- what is divided is the signed number as a float
-divided : (lo hi : ℕ) (x : Float) → x ≡ nearest (signed16 (lo + 256 * hi)) → div binary32 x (ofBits binary32 0x46ff_fe00) ≡ sample lo hi
-unfolding sample
-divided lo hi x e = ap₂ (div binary32) e divisor
+-- ---- the signed number, by its two halves
 
-plain : (b : ℕ) → b < 0x8000 → nearest (pos b) ≡ nearest (signed16 b)
+plain : (b : ℕ) → b < 0x8000 → signed16 b ≡ pos b
 unfolding signed16
-plain b h = sym (ap (λ (t : Bool). nearest (cond t (pos b) (negsuc (0xffff - b)))) (lt-ltb b 0x8000 h))
+plain b h = ap (λ (t : Bool). cond t (pos b) (negsuc (0xffff - b))) (lt-ltb b 0x8000 h)
 
-missing : (b : ℕ) → b < 0x1_0000 → 0x1_0000 - b ≡ suc (0xffff - b)
-missing b h = omega arith
-
-turned : (b : ℕ) → 0x8000 ≤ b → b < 0x1_0000 → neg (nearest (pos (0x1_0000 - b))) ≡ nearest (signed16 b)
+negative : (b : ℕ) → 0x8000 ≤ b → signed16 b ≡ negsuc (0xffff - b)
 unfolding signed16
-turned b l h =
-    ap (λ (n : ℕ). neg (nearest (pos n))) (missing b h)
-    ∙ neg-ofInt binary32 (0xffff - b)
-    ∙ sym (ap (λ (t : Bool). nearest (cond t (pos b) (negsuc (0xffff - b)))) (le-ltb b 0x8000 l))
+negative b h = ap (λ (t : Bool). cond t (pos b) (negsuc (0xffff - b))) (le-ltb b 0x8000 h)
+
+not-below : (n : ℕ) → 0x8000 ≤ n → subℕ n 0x8000 ≡ pos (n - 0x8000)
+not-below n h = ap (λ (t : Bool). cond t (negsuc (0x8000 - suc n)) (pos (n - 0x8000))) (le-ltb n 0x8000 h)
+
+below : (n : ℕ) → n < 0x8000 → subℕ n 0x8000 ≡ negsuc (0x8000 - suc n)
+below n h = ap (λ (t : Bool). cond t (negsuc (0x8000 - suc n)) (pos (n - 0x8000))) (lt-ltb n 0x8000 h)
+
+lowered : (b : ℕ) → b < 0x1_0000 → subℕ ((b + 0x8000) % 0x1_0000) 0x8000 ≡ signed16 b
+lowered b h =
+    by-test (ltb b 0x8000)
+    (λ e.
+    let l = ltb-true b 0x8000 e in
+    let turned : (b + 0x8000) % 0x1_0000 ≡ b + 0x8000 = omega arith in
+    let back : b + 0x8000 - 0x8000 ≡ b = omega arith in
+    rw (turned, plain b l) (not-below (b + 0x8000) (omega arith) ∙ ap pos back))
+    (λ e.
+    let l = ltb-false b 0x8000 e in
+    let turned : (b + 0x8000) % 0x1_0000 ≡ b - 0x8000 = omega arith in
+    let back : 0x8000 - suc (b - 0x8000) ≡ 0xffff - b = omega arith in
+    rw (turned, negative b l) (below (b - 0x8000) (omega arith) ∙ ap negsuc back))
+
+signed-small : (b : ℕ) → b < 0x1_0000 → mag (signed16 b) < 0x8000
+signed-small b h =
+    by-test (ltb b 0x8000)
+    (λ e. let l = ltb-true b 0x8000 e in rw (plain b l) l)
+    (λ e. let l = ltb-false b 0x8000 e in rw (negative b l) (omega arith))
+
+-- what the two casts and the difference make of it
+read-signed : (b : ℕ) → b < 0x1_0000 → toZ w32 ((b + 0x8000) % 0x1_0000) -ℤ pos 0x8000 ≡ signed16 b
+read-signed b h =
+    ap (λ (z : ℤ). z -ℤ pos 0x8000) (toZ-pos w32 ((b + 0x8000) % 0x1_0000) (omega arith)) ∙ lowered b h
 
 mul-b : tie.Need-mul-b
 mul-b c = search needs
@@ -43,35 +70,34 @@ mul-b c = search needs
 add-b : tie.Need-add-b
 add-b c = search needs
 
-nearest-u32-to-f32-requires : tie.Need-nearest-u32-to-f32-requires
-nearest-u32-to-f32-requires c κs = search needs
+add-above : tie.Need-add-above
+add-above c = search needs
 
-sub-nearest-u32-to-f32 : tie.Need-sub-nearest-u32-to-f32
-sub-nearest-u32-to-f32 c = search needs
+cast-x : tie.Need-cast-x
+cast-x c = search needs
 
-nearest-u32-to-f32-requires-2 : tie.Need-nearest-u32-to-f32-requires-2
-nearest-u32-to-f32-requires-2 c κs = search needs
+sub-x : tie.Need-sub-x
+sub-x c =
+    let b = c .args .lo + 256 * c .args .hi in
+    let h : b < 0x1_0000 = omega arith in
+    rw (read-signed b h) (record { sfits = omega (arith, signed-small b h) })
+
+cast-x-2 : tie.Need-cast-x-2
+cast-x-2 c =
+    let b = c .args .lo + 256 * c .args .hi in
+    let h : b < 0x1_0000 = omega arith in
+    rw (read-signed b h, toZ-ofZ w32 (signed16 b) (record { sfits = omega (arith, signed-small b h) })) (record { sfits = signed-small b h })
+
+int-to-float-result : tie.Need-int-to-float-result
+int-to-float-result c = search needs
 
 returns : tie.Need-returns
+unfolding sample
 returns c =
-    let args = c .before .before .args in
-    divided (args .lo) (args .hi) (c .nearest-u32-to-f32 .result)
-    (c .nearest-u32-to-f32 .ensures ∙ plain (args .lo + 256 * args .hi) (c .before .if1 .taken))
-
-returns-2 : tie.Need-returns-2
-returns-2 c =
-    let args = c .before .before .args in
-    divided (args .lo) (args .hi) (neg (c .nearest-u32-to-f322 .result))
-    (ap neg (c .nearest-u32-to-f322 .ensures) ∙ turned (args .lo + 256 * args .hi) (c .before .if1 .left) (omega arith))
+    let b = c .before .args .lo + 256 * c .before .args .hi in
+    let h : b < 0x1_0000 = omega arith in
+    rw (read-signed b h, toZ-ofZ w32 (signed16 b) (record { sfits = omega (arith, signed-small b h) }), toZ-ofZ w16 (signed16 b) (record { sfits = signed-small b h }))
+    (ap (λ (y : Float). div binary32 (nearest (signed16 b)) y) divisor)
 
 pub sample-spec : {M : Type 1} → statement M
-sample-spec =
-    tie.close
-    (tie.spec
-    mul-b
-    add-b
-    nearest-u32-to-f32-requires
-    sub-nearest-u32-to-f32
-    nearest-u32-to-f32-requires-2
-    returns
-    returns-2)
+sample-spec = tie.close (tie.spec mul-b add-b add-above cast-x sub-x cast-x-2 int-to-float-result returns)
