@@ -38,3 +38,4 @@ pub mod TapeFirstBad
 pub mod Decimal
 pub mod TapeWalk
 pub mod ReplaySteps
+pub mod SummarySteps

@@ -25,6 +25,7 @@ pub mod Step
 pub mod Lines
 pub mod Tape
 pub mod Replay
+pub mod Summary
 pub mod WholeList
 -- facts that are computed
 pub mod Computes
@@ -34,3 +35,4 @@ pub mod Values
 pub mod Asked
 pub mod HeldStates
 pub mod Printed
+pub mod Summarised
