@@ -28,6 +28,9 @@ sizesOf z =
 abbrev pub modelEstimates : Estimates → Receiver.Estimates
 modelEstimates e = record { top = e .top; floor = e .floor; range = e .range }
 
+abbrev pub modelSetup : Sizes → Estimates → Estimates → Receiver.Setup
+modelSetup z a b = record { sizes = sizesOf z; estimatesA = modelEstimates a; estimatesB = modelEstimates b }
+
 abbrev pub modelSettings : Settings → Receiver.Settings
 modelSettings x =
     record { adaptive = x .adaptive; top = x .top; range = x .range; zoom = x .zoom; smoothing = x .smoothing }

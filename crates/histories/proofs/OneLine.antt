@@ -14,7 +14,7 @@ use Rattle.model.proofs.BoolLaws.{cond-keeps}
 use Rattle.model.proofs.Reachable.{Room, ready-step, room-ready, room-step, set-up-facts, set-up-room}
 use Rattle.calls.specs.declared.Sizes.{Sizes}
 use Rattle.calls.specs.declared.Estimates.{Estimates}
-use Rattle.receiver_setup.specs.Promises.{modelSetup}
+use Rattle.calls.specs.Views.{modelSetup}
 use Rattle.histories.specs.Chains.{Moment, stateAt, lentAt, LeftBySetup, Chain, callsOf}
 use Rattle.histories.specs.Histories.{LineAgrees}
 use Rattle.histories.proofs.Runs.{calls-length, chain-bytes, chain-run}

@@ -11,8 +11,7 @@ use Rattle.model.proofs.Refusals.{never-refused-early}
 use Rattle.model.proofs.WholeList as Laws
 use Rattle.calls.specs.declared.Sizes.{Sizes}
 use Rattle.calls.specs.declared.Estimates.{Estimates}
-use Rattle.calls.specs.Views.{modelSide}
-use Rattle.receiver_setup.specs.Promises.{modelSetup}
+use Rattle.calls.specs.Views.{modelSide, modelSetup}
 use Rattle.histories.specs.Chains.{Moment, stateAt, lentAt, LeftBySetup, Chain, callsOf}
 use Rattle.histories.specs.Histories.{Histories}
 use Rattle.histories.proofs.Runs.{calls-length, chain-bytes, chain-lent, chain-sizes, chain-run}

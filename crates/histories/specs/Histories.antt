@@ -12,11 +12,10 @@ use Rattle.model.proofs.Refusals.{RefusedByOwn}
 use Rattle.calls.specs.declared.Side.{Side}
 use Rattle.calls.specs.declared.Sizes.{Sizes}
 use Rattle.calls.specs.declared.Estimates.{Estimates}
-use Rattle.calls.specs.Views.{modelSide, sizesOf}
+use Rattle.calls.specs.Views.{modelSide, sizesOf, modelSetup}
 use Rattle.jitter_buffer.specs.declared.JitterBuffer.{JitterBuffer}
 use Rattle.jitter_buffer.specs.declared.NextSequence.the-variants.{Next}
 use Rattle.receiver_state.specs.View.{channelAt, wordStart}
-use Rattle.receiver_setup.specs.Promises.{modelSetup}
 use Rattle.histories.specs.Chains.{Moment, stateAt, lentAt, callsOf}
 
 -- ---- lines

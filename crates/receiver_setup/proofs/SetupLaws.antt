@@ -20,13 +20,13 @@ use Rattle.model.proofs.ListLaws.{placed-length}
 use Rattle.calls.specs.declared.Side.the-variants.{A}
 use Rattle.calls.specs.declared.Sizes.{Sizes}
 use Rattle.calls.specs.declared.Estimates.{Estimates}
-use Rattle.calls.specs.Views.{sizesOf, modelEstimates}
+use Rattle.calls.specs.Views.{sizesOf, modelEstimates, modelSetup}
 use Rattle.areas.proofs.Placed.{part-before, part-within}
 use Rattle.channel.proofs.Sections.{word-section-is}
 use Rattle.receiver_state.specs.declared.Receiver.{Receiver}
 use Rattle.receiver_state.specs.declared.asking.Verdict.the-variants.{Yes, No}
 use Rattle.receiver_state.specs.View.{stateOf, lentOf}
-use Rattle.receiver_setup.specs.Promises.{modelSetup, picturesZeroed, SetupAccepted}
+use Rattle.receiver_setup.specs.Promises.{picturesZeroed, SetupAccepted}
 use Rattle.receiver_setup.specs.Setup.{SetupReady, SetupAsked, FreshReceiver}
 use Rattle.receiver_state.proofs.StateQuestions.{word-area-is}
 

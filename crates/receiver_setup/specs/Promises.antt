@@ -6,19 +6,15 @@ use lib.ListN.{length, replicate}
 use lib.Ieee.{Float}
 use Rattle.model.specs.Bytes.{placed}
 use Rattle.model.specs.Sizes.{mostWaiting, wordSection}
-use Rattle.model.specs.Receiver as Model
 use Rattle.model.specs.Receiver.{fresh}
 use Rattle.model.specs.Questions.{setUp, opened, notOpened}
 use Rattle.calls.specs.declared.Sizes.{Sizes}
 use Rattle.calls.specs.declared.Estimates.{Estimates}
-use Rattle.calls.specs.Views.{sizesOf, modelEstimates}
+use Rattle.calls.specs.Views.{sizesOf, modelSetup}
 use Rattle.receiver_state.specs.declared.Receiver.{Receiver}
 use Rattle.receiver_state.specs.View.{stateOf, lentOf}
 use Rattle.receiver_setup.specs.declared.Opening.{Opening}
 use Rattle.receiver_setup.specs.declared.Opening.the-variants as Setting
-
-abbrev pub modelSetup : Sizes → Estimates → Estimates → Model.Setup
-modelSetup z a b = record { sizes = sizesOf z; estimatesA = modelEstimates a; estimatesB = modelEstimates b }
 
 -- the u32 area with both pictures zeroed: A's, and then B's
 abbrev pub picturesZeroed : Sizes → List ℕ → List ℕ

@@ -11,7 +11,7 @@ use Rattle.model.specs.Clock.{freshClock}
 use Rattle.model.specs.Questions.{firstNo, setupQuestions}
 use Rattle.calls.specs.declared.Sizes.{Sizes}
 use Rattle.calls.specs.declared.Estimates.{Estimates}
-use Rattle.calls.specs.Views.{sizesOf}
+use Rattle.calls.specs.Views.{sizesOf, modelSetup}
 use Rattle.audio_metrics.specs.Views.{clockOf}
 use Rattle.udp.specs.Views.{countsOf}
 use Rattle.channel.specs.Promises.{FreshChannel}
@@ -20,7 +20,6 @@ use Rattle.receiver_state.specs.declared.asking.Verdict.{Verdict}
 use Rattle.receiver_state.specs.declared.asking.Verdict.the-variants.{Yes}
 use Rattle.receiver_state.specs.View.{lentOf}
 use Rattle.receiver_state.specs.Promises.{verdictOf}
-use Rattle.receiver_setup.specs.Promises.{modelSetup}
 
 -- what the questions let setup take for granted
 pub record SetupReady (z : Sizes) (us : List ℕ) : Type 0 where

@@ -2,8 +2,7 @@
 ghost use mathlib.Core.Path.{_≡_};
 ghost use Rattle.model.specs.Receiver.{datagram, play, reset, set, probe, oneWay, depth, transmitDepth};
 ghost use Rattle.model.specs.Tape.{putSetup, putCall, putEnd};
-ghost use Rattle.calls.specs.Views.{modelSide, modelSettings, modelCounts};
-ghost use Rattle.tape_writer.specs.Answers.{modelSetup};
+ghost use Rattle.calls.specs.Views.{modelSide, modelSettings, modelCounts, modelSetup};
 ghost use Rattle.tape_exports.specs.Numbers.{sideNamed, putNumber};
 ghost use Rattle.tape_exports.specs.Promises.{PutHanded};
 use calls::DepthCounts;
