@@ -17,6 +17,7 @@ use Rattle.calls.specs.Views.{sizesOf}
 use Rattle.receiver_state.specs.declared.Receiver.{Receiver}
 use Rattle.receiver_state.specs.declared.Answered.{Answered}
 use Rattle.replaying.specs.Acting.{callFound, MadeOf, TooMany}
+use Rattle.playback_parts.specs.declared.Form.{Form}
 use Rattle.playback_parts.specs.declared.Doing.{Doing}
 use Rattle.playback_parts.specs.declared.Doing.the-variants as Doing
 use Rattle.playback_parts.specs.declared.Playback.{Playback}
@@ -24,19 +25,19 @@ use Rattle.playback.specs.declared.Wrote.{Wrote}
 use Rattle.playback_parts.specs.declared.facts.Facts.{Facts}
 use Rattle.playback_parts.specs.declared.facts.Kind.the-variants as Kind
 use Rattle.playback_parts.specs.Facts.{FactsOf}
-use Rattle.playback.specs.Steps.{askedNext, roomFor, StepWritten, CallBegun}
+use Rattle.playback.specs.Steps.{askedNext, roomFor, WrittenAs, CallBegun}
 use Rattle.playback.proofs.Written.{call-written}
 
 module _ (tape : List ℕ) (w : Playback) (facts : Facts) (doing : w .doing ≡ Doing.Call) where
-  pub made-written : (found : Tape.Found) → callAt tape (w .place) ≡ found → FactsOf (sizesOf (w .receiver .sizes)) found facts → all isByte tape ≡ true
+  pub made-written : (form : Form) (found : Tape.Found) → callAt tape (w .place) ≡ found → FactsOf (sizesOf (w .receiver .sizes)) found facts → all isByte tape ≡ true
       → (fs : List Float) (us : List ℕ) (samples : List Float) (text : List ℕ) (v : Answered) (fs′ : List Float) (us′ : List ℕ) (samples′ : List Float) (text′ : List ℕ) (x : Wrote)
-      → MadeOf (callFound found) (w .receiver) fs us samples v fs′ us′ samples′ → CallBegun v facts fs′ text text′ x
-      → StepWritten tape w fs us samples text x fs′ us′ samples′ text′
-  made-written (Tape.foundCall c next) is known are fs us samples text v fs′ us′ samples′ text′ x made begun =
-      subst (λ (d : Doing). StepWritten tape (record { receiver = w .receiver; place = w .place; doing = d }) fs us samples text x fs′ us′ samples′ text′) (sym doing)
-      (call-written c (w .receiver) fs us samples v fs′ us′ samples′ made next facts known tape are (w .place) is text text′ x begun)
-  made-written Tape.foundEnd is known are fs us samples text v fs′ us′ samples′ text′ x made begun = absurd made
-  made-written (Tape.foundBad place) is known are fs us samples text v fs′ us′ samples′ text′ x made begun = absurd made
+      → MadeOf (callFound found) (w .receiver) fs us samples v fs′ us′ samples′ → CallBegun form v facts fs′ text text′ x
+      → WrittenAs form tape w fs us samples text x fs′ us′ samples′ text′
+  made-written form (Tape.foundCall c next) is known are fs us samples text v fs′ us′ samples′ text′ x made begun =
+      subst (λ (d : Doing). WrittenAs form tape (record { receiver = w .receiver; place = w .place; doing = d }) fs us samples text x fs′ us′ samples′ text′) (sym doing)
+      (call-written c (w .receiver) fs us samples v fs′ us′ samples′ made next facts known form tape are (w .place) is text text′ x begun)
+  made-written form Tape.foundEnd is known are fs us samples text v fs′ us′ samples′ text′ x made begun = absurd made
+  made-written form (Tape.foundBad place) is known are fs us samples text v fs′ us′ samples′ text′ x made begun = absurd made
 
   pub too-few : (found : Tape.Found) → callAt tape (w .place) ≡ found → (samples : List Float) (text : List ℕ) → TooMany (callFound found) samples
       → roomFor tape w samples text ≡ false

@@ -5,7 +5,7 @@ use mathlib.Core.Bool.{Bool, true, false, not, _&&_}
 use mathlib.Core.List.{List, [], _∷_}
 use native.Mathlib.Omega.{arith}
 use native.Mathlib.Nat.{mul-le-mul-right}
-use lib.ListN.{length, take, drop, length-drop}
+use lib.ListN.{length, take, drop, length-take, length-drop}
 use lib.Seq.{take-all, drop-length}
 use lib.Dec.{leb}
 use lib.Ieee.{Float}
@@ -17,9 +17,13 @@ use Rattle.model.proofs.BoolLaws.{by-test, clash, first-of-both, second-of-both
 use Rattle.model.proofs.ListLaws.{all-drop}
 use Rattle.model.proofs.BytesLaws.{isByte, isWord, words-of-are-words}
 use Rattle.tape.proofs.CheckLaws.{found-takes}
+use Rattle.receiver_state.specs.declared.Answer.{Answer}
+use Rattle.receiver_state.specs.declared.Answer.the-variants.{Refused, Accepted, Played, NoRow, Row}
 use Rattle.playback_parts.specs.declared.Doing.{Doing}
 use Rattle.playback_parts.specs.declared.Doing.the-variants as Doing
-use Rattle.playback.specs.Steps.{valuesHeld, stage}
+use Rattle.playback_parts.specs.declared.facts.Facts.{Facts}
+use Rattle.summary_lines.specs.Summaries.{RowHas}
+use Rattle.playback.specs.Steps.{valuesHeld, stage, RowStands, rowLength}
 
 -- ---- the place moves on
 
@@ -98,6 +102,14 @@ part-inside place n xs =
     let long : length (drop place xs) ≡ length xs - from = ap length (sym (drop-inside place xs)) ∙ length-drop from xs in
     let count : from + min n (length xs - from) - from ≡ min n (length (drop place xs)) = rw long (omega arith) in
     rw (count, drop-inside place xs) (sym (take-inside n (drop place xs)))
+
+-- so many values has a row, cut to what is lent
+pub row-has : (a : Answer) (facts : Facts) (fs values : List Float) (count : ℕ) → count ≡ rowLength a facts (length fs) → RowStands a facts fs values → RowHas a values count
+row-has (Refused n) facts fs values count is stands = tt
+row-has Accepted facts fs values count is stands = tt
+row-has (Played taken dropped short) facts fs values count is stands = tt
+row-has NoRow facts fs values count is stands = tt
+row-has (Row n) facts fs values count is stands = rw (stands n refl, length-take n (drop (facts .row) fs), length-drop (facts .row) fs) (omega arith)
 
 -- values that the test lets through lie inside
 pub values-inside : (from end : ℕ) (xs : List Float) (test : Bool) → test ≡ (leb from end && leb end (length xs)) → not test ≡ false → (from ≤ end) × (end ≤ length xs)

@@ -15,10 +15,9 @@ use Rattle.model.specs.Receiver.{Call, State}
 use Rattle.model.specs.Sizes.{sizesAllowed}
 use Rattle.model.specs.Step.{step}
 use Rattle.model.specs.Tape.{wordsOf, callAt, foundCall, foundEnd}
-use Rattle.model.specs.Replay.{answerLine, sideOf, channelLine, incomingLine, clockLine, closingLines}
+use Rattle.model.specs.Replay.{sideOf, channelLine, incomingLine, clockLine, closingLines}
 use Rattle.model.proofs.BoolLaws.{clash, both-and, first-of-both, second-of-both}
 use Rattle.model.proofs.BytesLaws.{isByte}
-use Rattle.model.proofs.ReplaySteps.{linesFrom, lines-end, lines-step}
 use Rattle.calls.specs.Views.{modelSide, sizesOf}
 use Rattle.receiver_state.specs.declared.Receiver.{Receiver}
 use Rattle.receiver_state.specs.declared.Answer.{Answer}
@@ -26,8 +25,12 @@ use Rattle.receiver_state.specs.declared.Answer.the-variants.{Refused, Accepted
 use Rattle.receiver_state.specs.declared.Answered.{Answered}
 use Rattle.receiver_state.specs.View.{stateOf, lentOf, answerOf}
 use Rattle.receiver_state.specs.Report.{countersIn, reportOf}
+use Rattle.replaying.specs.declared.printing.Left.{Left}
+use Rattle.replaying.specs.declared.printing.Left.the-variants as Left
 use Rattle.replaying.specs.Acting.{samplesAsked, valuesOf, CallMade, Unchanged}
 use Rattle.replaying.specs.Printing.{valuesEnded, leftOf, leftBehind}
+use Rattle.playback_parts.specs.declared.Form.{Form}
+use Rattle.playback_parts.specs.declared.Form.the-variants as Form
 use Rattle.playback_parts.specs.declared.Doing.{Doing}
 use Rattle.playback_parts.specs.declared.Doing.the-variants as Doing
 use Rattle.playback_parts.specs.declared.Playback.{Playback}
@@ -36,7 +39,9 @@ use Rattle.playback_parts.specs.declared.facts.Facts.{Facts}
 use Rattle.playback_parts.specs.declared.parts.Part.{Part}
 use Rattle.playback_parts.specs.Facts.{placeOf, CallFacts}
 use Rattle.playback_parts.specs.Parts.{partEnded, partLeft, TextPut, PartPut}
-use Rattle.playback.specs.Steps.{remaining, remainingOf, valuesHeld, makesCall, stage, stepsLeft, callsNow, placeNext, CallDone, StepWritten, doingAfter, CallBegun, Printed, incomingOf, clockOf, behindPart, samplesLeft, valuesLeft}
+use Rattle.playback_parts.specs.Forms.{answerAs, printedFrom}
+use Rattle.playback_parts.proofs.FormLaws.{printed-end, printed-step}
+use Rattle.playback.specs.Steps.{remaining, remainingOf, valuesHeld, makesCall, stage, stepsLeft, callsNow, placeNext, CallDone, WrittenAs, doingAfter, leftAs, RowStands, CallBegun, Printed, incomingOf, clockOf, behindPart, samplesLeft, valuesLeft}
 use Rattle.playback.proofs.AnswerKinds.{Kind, rows, samples, answerKind, callKind, answer-kind, answer-allowed}
 use Rattle.playback.proofs.Walks.{call-moves, stage-few, moved-less, part-inside}
 
@@ -76,17 +81,18 @@ module _ (c : Call) (r : Receiver) (fs : List Float) (us : List ℕ) (lent : Lis
   abbrev values : List Float
   values = valuesOf r c fs′ lent′
 
-  abbrev after : Doing
-  after = doingAfter (leftBehind (v .answer)) facts (length fs′)
-
   -- what is left of the line is what comes next, and it lies inside of what is lent
-  record Behind (a : Answer) (d : Doing) : Type 0 where
-    text : (lines : List ℕ) (cs : List Call) (s : State) → lines ≡ linesFrom (lentOf fs′ us′) cs s → leftOf (leftBehind a) values ++ lines ≡ remaining (lentOf fs′ us′) d fs′ lent′ cs s
+  record Behind (form : Form) (left : Left) (d : Doing) : Type 0 where
+    text : (lines : List ℕ) (cs : List Call) (s : State) → lines ≡ printedFrom form (lentOf fs′ us′) cs s → leftOf left values ++ lines ≡ remaining form (lentOf fs′ us′) d fs′ lent′ cs s
     inside : valuesHeld d fs′ lent′ ≡ true
 
-  samples-behind : (taken dropped short : ℕ) → v .answer ≡ Played taken dropped short → Behind (Played taken dropped short) (Doing.Samples 0 (facts .samples))
+  nothing-behind : (form : Form) → Behind form Left.Nothing Doing.Call
   unfolding remaining
-  samples-behind taken dropped short is =
+  nothing-behind form = record { text = λ lines cs s e. e; inside = refl }
+
+  samples-behind : (form : Form) (taken dropped short : ℕ) → v .answer ≡ Played taken dropped short → Behind form Left.Samples (Doing.Samples 0 (facts .samples))
+  unfolding remaining
+  samples-behind form taken dropped short is =
       let play = play-is c (rw is at (answer-kind (lentOf fs us) c (stateOf r fs us) (stateOf (v .receiver) fs′ us′) (answerOf (v .answer) values) (made .called .steps) (rw is tt))) in
       let asked : facts .samples - 0 ≡ play .count = omega (arith, known .samples, ap samplesAsked (play .is)) in
       let are : values ≡ part 0 (facts .samples - 0) lent′ = ap (λ (d : Call). valuesOf r d fs′ lent′) (play .is) ∙ rw asked in
@@ -95,15 +101,20 @@ module _ (c : Call) (r : Receiver) (fs : List Float) (us : List ℕ) (lent : Lis
         inside = both-and (le-leb 0 (facts .samples) (omega arith)) (le-leb (facts .samples) (length lent′) (omega (arith, known .samples, made .room, made .sample-length)));
       }
 
-  row-behind : (n : ℕ) → v .answer ≡ Row n → Behind (Row n) (doingAfter (leftBehind (Row n)) facts (length fs′))
-  unfolding remaining
-  row-behind n is =
+  -- a row's values stand from their place on
+  row-stands : RowStands (v .answer) facts fs′ values
+  row-stands n is =
       let datagram = datagram-is c (rw is at (answer-kind (lentOf fs us) c (stateOf r fs us) (stateOf (v .receiver) fs′ us′) (answerOf (v .answer) values) (made .called .steps) (rw is tt))) in
       let allowed : sizesAllowed (sizesOf (r .sizes)) ≡ true = answer-allowed (lentOf fs us) c (stateOf r fs us) (stateOf (v .receiver) fs′ us′) (answerOf (v .answer) values) (made .called .steps) (rw is tt) in
       let place : facts .row ≡ placeOf (sizesOf (r .sizes)) c = known .row allowed in
       let from-place : values ≡ drop (placeOf (sizesOf (r .sizes)) c) fs′ = rw (datagram .is) in
+      rw place from-place
+
+  row-behind : (form : Form) (n : ℕ) → v .answer ≡ Row n → Behind form (Left.Values n) (doingAfter (Left.Values n) facts (length fs′))
+  unfolding remaining
+  row-behind form n is =
       let are : take n values ≡ part (min (facts .row) (length fs′)) (min (facts .row) (length fs′) + min n (length fs′ - min (facts .row) (length fs′)) - min (facts .row) (length fs′)) fs′ =
-      rw (from-place, ← place) (part-inside (facts .row) n fs′) in
+      rw (row-stands n is) (part-inside (facts .row) n fs′) in
       record {
         text = λ lines cs s e. rw (are, e);
         inside =
@@ -111,37 +122,43 @@ module _ (c : Call) (r : Receiver) (fs : List Float) (us : List ℕ) (lent : Lis
             (le-leb (min (facts .row) (length fs′) + min n (length fs′ - min (facts .row) (length fs′))) (length fs′) (omega arith));
       }
 
-  behind : (a : Answer) → v .answer ≡ a → Behind a (doingAfter (leftBehind a) facts (length fs′))
-  unfolding remaining
-  behind (Refused n) is = record { text = λ lines cs s e. e; inside = refl }
-  behind Accepted is = record { text = λ lines cs s e. e; inside = refl }
-  behind (Played taken dropped short) is = samples-behind taken dropped short is
-  behind NoRow is = record { text = λ lines cs s e. e; inside = refl }
-  behind (Row n) is = row-behind n is
+  full-behind : (form : Form) (a : Answer) → v .answer ≡ a → Behind form (leftBehind a) (doingAfter (leftBehind a) facts (length fs′))
+  full-behind form (Refused n) is = nothing-behind form
+  full-behind form Accepted is = nothing-behind form
+  full-behind form (Played taken dropped short) is = samples-behind form taken dropped short is
+  full-behind form NoRow is = nothing-behind form
+  full-behind form (Row n) is = row-behind form n is
+
+  behind : (form : Form) → Behind form (leftAs form (v .answer)) (doingAfter (leftAs form (v .answer)) facts (length fs′))
+  behind Form.Full = full-behind Form.Full (v .answer) refl
+  behind Form.Summary = nothing-behind Form.Summary
 
   -- ---- the step
 
-  module _ (tape : List ℕ) (are : all isByte tape ≡ true) (place : ℕ) (found : callAt tape place ≡ foundCall c next) (text text′ : List ℕ) (w : Wrote)
-      (begun : CallBegun v facts fs′ text text′ w) where
+  module _ (form : Form) (tape : List ℕ) (are : all isByte tape ≡ true) (place : ℕ) (found : callAt tape place ≡ foundCall c next) (text text′ : List ℕ) (w : Wrote)
+      (begun : CallBegun form v facts fs′ text text′ w) where
     abbrev at : Playback
     at = record { receiver = r; place = place; doing = Doing.Call }
 
-    abbrev lines-behind : Behind (v .answer) after
-    lines-behind = behind (v .answer) refl
+    abbrev after : Doing
+    after = doingAfter (leftAs form (v .answer)) facts (length fs′)
 
-    goes : (cs : List Call) → remainingOf at fs us lent (callsNow Doing.Call (callAt tape place) cs) ≡ begun .piece ++ remainingOf (w .playback) fs′ us′ lent′ cs
+    abbrev lines-behind : Behind form (leftAs form (v .answer)) after
+    lines-behind = behind form
+
+    goes : (cs : List Call) → remainingOf form at fs us lent (callsNow Doing.Call (callAt tape place) cs) ≡ begun .piece ++ remainingOf form (w .playback) fs′ us′ lent′ cs
     unfolding remaining
     goes cs =
         let s = stateOf r fs us in
         let s′ = stateOf (v .receiver) fs′ us′ in
-        let left = leftOf (leftBehind (v .answer)) values in
-        let rest = linesFrom (lentOf fs us) cs s′ in
-        let first : linesFrom (lentOf fs us) (callsNow Doing.Call (callAt tape place) cs) s ≡ answerLine (sideOf c) (step (lentOf fs us) c s .answer) ++ linesFrom (lentOf fs us) cs (step (lentOf fs us) c s .after) =
-        rw found (lines-step (lentOf fs us) c cs s) in
-        let second : answerLine (sideOf c) (step (lentOf fs us) c s .answer) ++ linesFrom (lentOf fs us) cs (step (lentOf fs us) c s .after) ≡ (begun .piece ++ left) ++ rest =
-        rw (made .called .steps, ← known .side, begun .line-is values) in
-        let same : rest ≡ linesFrom (lentOf fs′ us′) cs s′ = rw (made .called .areas .float-length, made .called .areas .word-length) in
-        let third : left ++ rest ≡ remainingOf (w .playback) fs′ us′ lent′ cs = rw (begun .behind) (lines-behind .text rest cs s′ same) in
+        let left = leftOf (leftAs form (v .answer)) values in
+        let rest = printedFrom form (lentOf fs us) cs s′ in
+        let first : printedFrom form (lentOf fs us) (callsNow Doing.Call (callAt tape place) cs) s ≡ answerAs form (sideOf c) (step (lentOf fs us) c s .answer) ++ printedFrom form (lentOf fs us) cs (step (lentOf fs us) c s .after) =
+        rw found (printed-step form (lentOf fs us) c cs s) in
+        let second : answerAs form (sideOf c) (step (lentOf fs us) c s .answer) ++ printedFrom form (lentOf fs us) cs (step (lentOf fs us) c s .after) ≡ (begun .piece ++ left) ++ rest =
+        rw (made .called .steps, ← known .side, begun .line-is values row-stands) in
+        let same : rest ≡ printedFrom form (lentOf fs′ us′) cs s′ = rw (made .called .areas .float-length, made .called .areas .word-length) in
+        let third : left ++ rest ≡ remainingOf form (w .playback) fs′ us′ lent′ cs = rw (begun .behind) (lines-behind .text rest cs s′ same) in
         first ∙ second ∙ append-assoc (begun .piece) left rest ∙ ap (λ (xs : List ℕ). begun .piece ++ xs) third
 
     done : (d : Call) (n : ℕ) → callAt tape place ≡ foundCall d n → CallDone d r fs us (w .playback .receiver) fs′ us′
@@ -157,7 +174,7 @@ module _ (c : Call) (r : Receiver) (fs : List Float) (us : List ℕ) (lent : Lis
         (moved-less (length (wordsOf tape)) place (facts .next) (length fs′ + length lent′) (stage after) (rw (known .next-place) (moves .0)) (rw (known .next-place) (moves .1))
         (stage-few after fs′ lent′ (lines-behind .inside)))
 
-    pub call-written : StepWritten tape at fs us lent text w fs′ us′ lent′ text′
+    pub call-written : WrittenAs form tape at fs us lent text w fs′ us′ lent′ text′
     call-written =
         record {
           piece = begun .piece;
@@ -175,15 +192,15 @@ module _ (c : Call) (r : Receiver) (fs : List Float) (us : List ℕ) (lent : Lis
 
 -- ---- other pieces: the receiver and what is lent stay
 
-module _ (tape : List ℕ) (w : Playback) (fs : List Float) (us : List ℕ) (lent : List Float) (text text′ : List ℕ) where
+module _ (form : Form) (tape : List ℕ) (w : Playback) (fs : List Float) (us : List ℕ) (lent : List Float) (text text′ : List ℕ) where
   abbrev from-here : Doing → List Call → List ℕ
-  from-here d cs = remaining (lentOf fs us) d fs lent cs (stateOf (w .receiver) fs us)
+  from-here d cs = remaining form (lentOf fs us) d fs lent cs (stateOf (w .receiver) fs us)
 
   pub printed-written : (piece : List ℕ) (d : Doing) (v : Wrote) → Printed w piece d text text′ v
       → ((c : Call) (next : ℕ) → makesCall (w .doing) ≡ true → callAt tape (w .place) ≡ foundCall c next → ⊥)
       → placeNext (w .doing) (callAt tape (w .place)) (w .place) ≡ w .place
       → ((cs : List Call) → from-here (w .doing) (callsNow (w .doing) (callAt tape (w .place)) cs) ≡ piece ++ from-here d cs)
-      → valuesHeld d fs lent ≡ true → stage d < stage (w .doing) → StepWritten tape w fs us lent text v fs us lent text′
+      → valuesHeld d fs lent ≡ true → stage d < stage (w .doing) → WrittenAs form tape w fs us lent text v fs us lent text′
   unfolding stepsLeft
   printed-written piece d v printed no-call stays goes held few =
       record {
@@ -203,27 +220,27 @@ module _ (tape : List ℕ) (w : Playback) (fs : List Float) (us : List ℕ) (len
   -- ---- the closing lines
 
   pub line-a-written : (v : Wrote) → w .doing ≡ Doing.Call → callAt tape (w .place) ≡ foundEnd → Printed w (channelLine Framing.A (countersIn (reportOf (w .receiver) .a))) Doing.LineB text text′ v
-      → StepWritten tape w fs us lent text v fs us lent text′
+      → WrittenAs form tape w fs us lent text v fs us lent text′
   unfolding remaining closingLines
   line-a-written v doing found printed =
-      printed-written _ Doing.LineB v printed (λ c next is there. clash (cc)) (rw (doing, found)) (λ cs. rw (doing, found) (lines-end (lentOf fs us) (stateOf (w .receiver) fs us))) refl (rw doing (omega arith))
+      printed-written _ Doing.LineB v printed (λ c next is there. clash (cc)) (rw (doing, found)) (λ cs. rw (doing, found) (printed-end form (lentOf fs us) (stateOf (w .receiver) fs us))) refl (rw doing (omega arith))
 
   -- what prints makes no call
   prints-only : (d : Doing) → makesCall d ≡ false → w .doing ≡ d → (c : Call) (next : ℕ) → makesCall (w .doing) ≡ true → callAt tape (w .place) ≡ foundCall c next → ⊥
   prints-only d quiet doing c next is there = true≢false (sym is ∙ rw doing quiet)
 
   pub line-b-written : (v : Wrote) → w .doing ≡ Doing.LineB → Printed w (channelLine Framing.B (countersIn (reportOf (w .receiver) .b))) Doing.LineI text text′ v
-      → StepWritten tape w fs us lent text v fs us lent text′
+      → WrittenAs form tape w fs us lent text v fs us lent text′
   unfolding remaining
   line-b-written v doing printed = printed-written _ Doing.LineI v printed (prints-only Doing.LineB refl doing) (rw doing) (λ cs. rw doing) refl (rw doing (omega arith))
 
   pub line-i-written : (v : Wrote) → w .doing ≡ Doing.LineI → Printed w (incomingOf (reportOf (w .receiver))) Doing.LineC text text′ v
-      → StepWritten tape w fs us lent text v fs us lent text′
+      → WrittenAs form tape w fs us lent text v fs us lent text′
   unfolding remaining incomingLine
   line-i-written v doing printed = printed-written _ Doing.LineC v printed (prints-only Doing.LineI refl doing) (rw doing) (λ cs. rw doing) refl (rw doing (omega arith))
 
   pub line-c-written : (v : Wrote) → w .doing ≡ Doing.LineC → Printed w (clockOf (reportOf (w .receiver))) Doing.Done text text′ v
-      → StepWritten tape w fs us lent text v fs us lent text′
+      → WrittenAs form tape w fs us lent text v fs us lent text′
   unfolding remaining clockLine
   line-c-written v doing printed = printed-written _ Doing.Done v printed (prints-only Doing.LineC refl doing) (rw doing) (λ cs. rw doing (sym (append-nil _))) refl (rw doing (omega arith))
 
@@ -234,27 +251,27 @@ module _ (tape : List ℕ) (w : Playback) (fs : List Float) (us : List ℕ) (len
 
   module _ (from end : ℕ) (p : Part) where
     pub samples-written : w .doing ≡ Doing.Samples from end → end ≤ length lent → PartPut lent from end text text′ p
-        → StepWritten tape w fs us lent text (behind-part p (samplesLeft p end)) fs us lent text′
+        → WrittenAs form tape w fs us lent text (behind-part p (samplesLeft p end)) fs us lent text′
     unfolding remaining
     samples-written doing inside put = go (p .ended) refl
       where
-        go : (e : Bool) → p .ended ≡ e → StepWritten tape w fs us lent text (behind-part p (samplesLeft p end)) fs us lent text′
+        go : (e : Bool) → p .ended ≡ e → WrittenAs form tape w fs us lent text (behind-part p (samplesLeft p end)) fs us lent text′
         go true ended =
-            printed-written (put .text) (samplesLeft p end) (behind-part p (samplesLeft p end)) (record { put = put .put; behind = refl }) (prints-only (Doing.Samples from end) refl doing) (rw doing) (λ cs. rw (doing, put .line, ended) (append-assoc (put .text) [] (linesFrom (lentOf fs us) cs (stateOf (w .receiver) fs us)))) (rw ended) (rw (doing, ended) (omega arith))
+            printed-written (put .text) (samplesLeft p end) (behind-part p (samplesLeft p end)) (record { put = put .put; behind = refl }) (prints-only (Doing.Samples from end) refl doing) (rw doing) (λ cs. rw (doing, put .line, ended) (append-assoc (put .text) [] (printedFrom form (lentOf fs us) cs (stateOf (w .receiver) fs us)))) (rw ended) (rw (doing, ended) (omega arith))
         go false ended =
-            printed-written (put .text) (samplesLeft p end) (behind-part p (samplesLeft p end)) (record { put = put .put; behind = refl }) (prints-only (Doing.Samples from end) refl doing) (rw doing) (λ cs. rw (doing, put .line, ended) (append-assoc (put .text) (partEnded (p .from) end lent) (linesFrom (lentOf fs us) cs (stateOf (w .receiver) fs us))))
+            printed-written (put .text) (samplesLeft p end) (behind-part p (samplesLeft p end)) (record { put = put .put; behind = refl }) (prints-only (Doing.Samples from end) refl doing) (rw doing) (λ cs. rw (doing, put .line, ended) (append-assoc (put .text) (partEnded (p .from) end lent) (printedFrom form (lentOf fs us) cs (stateOf (w .receiver) fs us))))
             (rw ended (both-and (le-leb (p .from) end (put .inside)) (le-leb end (length lent) inside)))
             (rw (doing, ended) (omega (arith, put .inside, put .further ended)))
 
     pub values-written : w .doing ≡ Doing.Values from end → end ≤ length fs → PartPut fs from end text text′ p
-        → StepWritten tape w fs us lent text (behind-part p (valuesLeft p end)) fs us lent text′
+        → WrittenAs form tape w fs us lent text (behind-part p (valuesLeft p end)) fs us lent text′
     unfolding remaining
     values-written doing inside put = go (p .ended) refl
       where
-        go : (e : Bool) → p .ended ≡ e → StepWritten tape w fs us lent text (behind-part p (valuesLeft p end)) fs us lent text′
+        go : (e : Bool) → p .ended ≡ e → WrittenAs form tape w fs us lent text (behind-part p (valuesLeft p end)) fs us lent text′
         go true ended =
-            printed-written (put .text) (valuesLeft p end) (behind-part p (valuesLeft p end)) (record { put = put .put; behind = refl }) (prints-only (Doing.Values from end) refl doing) (rw doing) (λ cs. rw (doing, put .line, ended) (append-assoc (put .text) [] (linesFrom (lentOf fs us) cs (stateOf (w .receiver) fs us)))) (rw ended) (rw (doing, ended) (omega arith))
+            printed-written (put .text) (valuesLeft p end) (behind-part p (valuesLeft p end)) (record { put = put .put; behind = refl }) (prints-only (Doing.Values from end) refl doing) (rw doing) (λ cs. rw (doing, put .line, ended) (append-assoc (put .text) [] (printedFrom form (lentOf fs us) cs (stateOf (w .receiver) fs us)))) (rw ended) (rw (doing, ended) (omega arith))
         go false ended =
-            printed-written (put .text) (valuesLeft p end) (behind-part p (valuesLeft p end)) (record { put = put .put; behind = refl }) (prints-only (Doing.Values from end) refl doing) (rw doing) (λ cs. rw (doing, put .line, ended) (append-assoc (put .text) (partEnded (p .from) end fs) (linesFrom (lentOf fs us) cs (stateOf (w .receiver) fs us))))
+            printed-written (put .text) (valuesLeft p end) (behind-part p (valuesLeft p end)) (record { put = put .put; behind = refl }) (prints-only (Doing.Values from end) refl doing) (rw doing) (λ cs. rw (doing, put .line, ended) (append-assoc (put .text) (partEnded (p .from) end fs) (printedFrom form (lentOf fs us) cs (stateOf (w .receiver) fs us))))
             (rw ended (both-and (le-leb (p .from) end (put .inside)) (le-leb end (length fs) inside)))
             (rw (doing, ended) (omega (arith, put .inside, put .further ended)))

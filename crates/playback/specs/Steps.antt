@@ -1,21 +1,22 @@
--- What is still to be printed of a replay, and what a step promises. Assumes nothing.
+-- What is still to be printed of a replay in either form, and what a step promises. Assumes nothing.
 use Prim.Native.Nat.{ℕ, _+_, _-_, _*_, _≤_, _<_, min}
 use mathlib.Core.Path.{_≡_}
 use mathlib.Core.Bool.{Bool, true, false, _&&_, cond}
 use mathlib.Core.List.{List, [], _∷_, _++_, map}
-use lib.ListN.{length}
+use lib.ListN.{length, drop}
 use lib.Dec.{leb}
 use lib.Ieee.{Float}
 use Rattle.model.specs.Framing.{B}
 use Rattle.model.specs.Receiver.{Lent, Call, State, Answer}
 use Rattle.model.specs.Tape as Tape
 use Rattle.model.specs.Tape.{wordsOf, callAt, foundCall, foundBad}
-use Rattle.model.specs.Replay.{decimal, line, answerLine, channelLine, incomingLine, clockLine}
-use Rattle.model.proofs.ReplaySteps.{linesFrom}
+use Rattle.model.specs.Replay.{decimal, line, channelLine, incomingLine, clockLine}
 use Rattle.calls.specs.Views.{modelSide, sizesOf}
 use Rattle.tape.specs.declared.Found.{Found}
 use Rattle.tape.specs.Answers.{IsFound}
 use Rattle.receiver_state.specs.declared.Receiver.{Receiver}
+use Rattle.receiver_state.specs.declared.Answer as Code
+use Rattle.receiver_state.specs.declared.Answer.the-variants as Codes
 use Rattle.receiver_state.specs.declared.Answered.{Answered}
 use Rattle.receiver_state.specs.declared.report.Report.{Report}
 use Rattle.receiver_state.specs.View.{stateOf, lentOf, answerOf}
@@ -25,6 +26,8 @@ use Rattle.replaying.specs.declared.printing.Left.{Left}
 use Rattle.replaying.specs.declared.printing.Left.the-variants as Left
 use Rattle.replaying.specs.Acting.{samplesAsked, Unchanged}
 use Rattle.replaying.specs.Printing.{leftOf, leftBehind}
+use Rattle.playback_parts.specs.declared.Form.{Form}
+use Rattle.playback_parts.specs.declared.Form.the-variants as Form
 use Rattle.playback_parts.specs.declared.Doing.{Doing}
 use Rattle.playback_parts.specs.declared.Doing.the-variants as Doing
 use Rattle.playback_parts.specs.declared.Playback.{Playback}
@@ -37,21 +40,22 @@ use Rattle.playback_parts.specs.declared.facts.Kind.the-variants as Kind
 use Rattle.playback_parts.specs.declared.parts.Part.{Part}
 use Rattle.playback_parts.specs.Facts.{FactsOf}
 use Rattle.playback_parts.specs.Parts.{partEnded, TextPut}
+use Rattle.playback_parts.specs.Forms.{answerAs, printedFrom}
 
 -- ---- what is still to be printed
 
 -- from a state on, with these calls to come: what is printed next, and all that follows it
-unfoldable pub remaining : Lent → Doing → List Float → List Float → List Call → State → List ℕ
-remaining lent Doing.Call fs samples cs s = linesFrom lent cs s
-remaining lent (Doing.Samples from end) fs samples cs s = partEnded from end samples ++ linesFrom lent cs s
-remaining lent (Doing.Values from end) fs samples cs s = partEnded from end fs ++ linesFrom lent cs s
-remaining lent Doing.LineB fs samples cs s = channelLine B (s .channelB .buffer .counters) ++ (incomingLine s ++ clockLine (s .clock))
-remaining lent Doing.LineI fs samples cs s = incomingLine s ++ clockLine (s .clock)
-remaining lent Doing.LineC fs samples cs s = clockLine (s .clock)
-remaining lent Doing.Done fs samples cs s = []
+unfoldable pub remaining : Form → Lent → Doing → List Float → List Float → List Call → State → List ℕ
+remaining form lent Doing.Call fs samples cs s = printedFrom form lent cs s
+remaining form lent (Doing.Samples from end) fs samples cs s = partEnded from end samples ++ printedFrom form lent cs s
+remaining form lent (Doing.Values from end) fs samples cs s = partEnded from end fs ++ printedFrom form lent cs s
+remaining form lent Doing.LineB fs samples cs s = channelLine B (s .channelB .buffer .counters) ++ (incomingLine s ++ clockLine (s .clock))
+remaining form lent Doing.LineI fs samples cs s = incomingLine s ++ clockLine (s .clock)
+remaining form lent Doing.LineC fs samples cs s = clockLine (s .clock)
+remaining form lent Doing.Done fs samples cs s = []
 
-abbrev pub remainingOf : Playback → List Float → List ℕ → List Float → List Call → List ℕ
-remainingOf w fs us samples cs = remaining (lentOf fs us) (w .doing) fs samples cs (stateOf (w .receiver) fs us)
+abbrev pub remainingOf : Form → Playback → List Float → List ℕ → List Float → List Call → List ℕ
+remainingOf form w fs us samples cs = remaining form (lentOf fs us) (w .doing) fs samples cs (stateOf (w .receiver) fs us)
 
 -- only a call changes what is lent
 abbrev pub makesCall : Doing → Bool
@@ -146,7 +150,7 @@ pub record CallDone (c : Call) (r : Receiver) (fs : List Float) (us : List ℕ) 
 
 -- Whatever calls follow, what was to be printed is the piece and what is still to be printed. The receiver is changed by the call at the place
 -- alone, and what is lent by nothing else.
-pub record StepWritten (tape : List ℕ) (w : Playback) (fs : List Float) (us : List ℕ) (samples : List Float) (text : List ℕ) (v : Wrote) (fs′ : List Float) (us′ : List ℕ) (samples′ : List Float) (text′ : List ℕ) : Type 0 where
+pub record WrittenAs (form : Form) (tape : List ℕ) (w : Playback) (fs : List Float) (us : List ℕ) (samples : List Float) (text : List ℕ) (v : Wrote) (fs′ : List Float) (us′ : List ℕ) (samples′ : List Float) (text′ : List ℕ) : Type 0 where
   pub piece : List ℕ
   pub put : TextPut piece text text′ (v .bytes)
   pub float-length : length fs′ ≡ length fs
@@ -155,19 +159,26 @@ pub record StepWritten (tape : List ℕ) (w : Playback) (fs : List Float) (us : 
   pub only-calls : makesCall (w .doing) ≡ false → Unchanged fs us samples fs′ us′ samples′
   pub made : (c : Call) (next : ℕ) → makesCall (w .doing) ≡ true → callAt tape (w .place) ≡ foundCall c next → CallDone c (w .receiver) fs us (v .playback .receiver) fs′ us′
   pub next-place : v .playback .place ≡ placeNext (w .doing) (callAt tape (w .place)) (w .place)
-  pub lines : (cs : List Call) → remainingOf w fs us samples (callsNow (w .doing) (callAt tape (w .place)) cs) ≡ piece ++ remainingOf (v .playback) fs′ us′ samples′ cs
+  pub lines : (cs : List Call) → remainingOf form w fs us samples (callsNow (w .doing) (callAt tape (w .place)) cs) ≡ piece ++ remainingOf form (v .playback) fs′ us′ samples′ cs
   pub held : valuesHeld (v .playback .doing) fs′ samples′ ≡ true
   pub less : stepsLeft tape (v .playback) fs′ samples′ < stepsLeft tape w fs samples
 
 abbrev pub AllUnchanged : List Float → List ℕ → List Float → List ℕ → List Float → List ℕ → List Float → List ℕ → Type 0
 AllUnchanged fs us samples text fs′ us′ samples′ text′ = Unchanged fs us samples fs′ us′ samples′ × (text′ ≡ text)
 
+abbrev pub DoneAs : Form → List ℕ → Playback → List Float → List ℕ → List Float → List ℕ → Step → List Float → List ℕ → List Float → List ℕ → Type 0
+DoneAs form tape w fs us samples text (Step.Written v) fs′ us′ samples′ text′ = WrittenAs form tape w fs us samples text v fs′ us′ samples′ text′
+DoneAs form tape w fs us samples text Step.NoRoom fs′ us′ samples′ text′ = (roomFor tape w samples text ≡ false) × AllUnchanged fs us samples text fs′ us′ samples′ text′
+DoneAs form tape w fs us samples text Step.NotHeld fs′ us′ samples′ text′ = (valuesHeld (w .doing) fs samples ≡ false) × AllUnchanged fs us samples text fs′ us′ samples′ text′
+DoneAs form tape w fs us samples text (Step.Bad place) fs′ us′ samples′ text′ = (w .doing ≡ Doing.Call) × (callAt tape (w .place) ≡ foundBad place) × AllUnchanged fs us samples text fs′ us′ samples′ text′
+DoneAs form tape w fs us samples text Step.Over fs′ us′ samples′ text′ = (w .doing ≡ Doing.Done) × AllUnchanged fs us samples text fs′ us′ samples′ text′
+
+-- with every line whole
+abbrev pub StepWritten : List ℕ → Playback → List Float → List ℕ → List Float → List ℕ → Wrote → List Float → List ℕ → List Float → List ℕ → Type 0
+StepWritten tape w fs us samples text v fs′ us′ samples′ text′ = WrittenAs Form.Full tape w fs us samples text v fs′ us′ samples′ text′
+
 abbrev pub StepDone : List ℕ → Playback → List Float → List ℕ → List Float → List ℕ → Step → List Float → List ℕ → List Float → List ℕ → Type 0
-StepDone tape w fs us samples text (Step.Written v) fs′ us′ samples′ text′ = StepWritten tape w fs us samples text v fs′ us′ samples′ text′
-StepDone tape w fs us samples text Step.NoRoom fs′ us′ samples′ text′ = (roomFor tape w samples text ≡ false) × AllUnchanged fs us samples text fs′ us′ samples′ text′
-StepDone tape w fs us samples text Step.NotHeld fs′ us′ samples′ text′ = (valuesHeld (w .doing) fs samples ≡ false) × AllUnchanged fs us samples text fs′ us′ samples′ text′
-StepDone tape w fs us samples text (Step.Bad place) fs′ us′ samples′ text′ = (w .doing ≡ Doing.Call) × (callAt tape (w .place) ≡ foundBad place) × AllUnchanged fs us samples text fs′ us′ samples′ text′
-StepDone tape w fs us samples text Step.Over fs′ us′ samples′ text′ = (w .doing ≡ Doing.Done) × AllUnchanged fs us samples text fs′ us′ samples′ text′
+StepDone tape w fs us samples text v fs′ us′ samples′ text′ = DoneAs Form.Full tape w fs us samples text v fs′ us′ samples′ text′
 
 -- ---- the parts of a step
 
@@ -177,11 +188,28 @@ doingAfter Left.Nothing facts floats = Doing.Call
 doingAfter Left.Samples facts floats = Doing.Samples 0 (facts .samples)
 doingAfter (Left.Values n) facts floats = Doing.Values (min (facts .row) floats) (min (facts .row) floats + min n (floats - min (facts .row) floats))
 
-pub record CallBegun (v : Answered) (facts : Facts) (fs : List Float) (text text′ : List ℕ) (w : Wrote) : Type 0 where
+-- what is left of a call's line: of a summary's nothing is
+abbrev pub leftAs : Form → Code.Answer → Left
+leftAs Form.Full a = leftBehind a
+leftAs Form.Summary a = Left.Nothing
+
+-- a row's values stand from their place on
+abbrev pub RowStands : Code.Answer → Facts → List Float → List Float → Type 0
+RowStands a facts fs values = (n : ℕ) → a ≡ Codes.Row n → values ≡ drop (facts .row) fs
+
+pub record CallBegun (form : Form) (v : Answered) (facts : Facts) (fs : List Float) (text text′ : List ℕ) (w : Wrote) : Type 0 where
   pub piece : List ℕ
   pub put : TextPut piece text text′ (w .bytes)
-  pub line-is : (values : List Float) → answerLine (modelSide (facts .side)) (answerOf (v .answer) values) ≡ piece ++ leftOf (leftBehind (v .answer)) values
-  pub behind : w .playback ≡ record { receiver = v .receiver; place = facts .next; doing = doingAfter (leftBehind (v .answer)) facts (length fs) }
+  pub line-is : (values : List Float) → RowStands (v .answer) facts fs values → answerAs form (modelSide (facts .side)) (answerOf (v .answer) values) ≡ piece ++ leftOf (leftAs form (v .answer)) values
+  pub behind : w .playback ≡ record { receiver = v .receiver; place = facts .next; doing = doingAfter (leftAs form (v .answer)) facts (length fs) }
+
+-- how many values of a row lie inside of what is lent
+abbrev pub rowLength : Code.Answer → Facts → ℕ → ℕ
+rowLength (Codes.Refused n) facts floats = 0
+rowLength Codes.Accepted facts floats = 0
+rowLength (Codes.Played taken dropped short) facts floats = 0
+rowLength Codes.NoRow facts floats = 0
+rowLength (Codes.Row n) facts floats = min n (floats - min (facts .row) floats)
 
 -- a line was printed, and another thing comes next
 pub record Printed (w : Playback) (piece : List ℕ) (doing : Doing) (text text′ : List ℕ) (v : Wrote) : Type 0 where

@@ -7,12 +7,14 @@ ghost use lib.Dec.{leb};
 ghost use Rattle.model.specs.Framing as Framing;
 ghost use Rattle.model.specs.Replay.{channelLine};
 ghost use Rattle.receiver_state.specs.Report.{countersIn, reportOf};
-ghost use Rattle.playback.specs.Steps.{doingAfter, samplesLeft, valuesLeft, incomingOf, clockOf, CallBegun, Printed, MakeReady, StepDone};
+ghost use Rattle.playback.specs.Steps.{doingAfter, rowLength, samplesLeft, valuesLeft, incomingOf, clockOf, CallBegun, Printed, MakeReady, DoneAs, StepDone};
 ghost use Rattle.playback_parts.specs.declared.Doing.the-variants as Doing;
+ghost use Rattle.playback_parts.specs.declared.Form.the-variants as Form;
 use crate::Step;
 use crate::Wrote;
 use calls::Side;
 use playback_parts::Doing;
+use playback_parts::Form;
 use playback_parts::PIECE;
 use playback_parts::Playback;
 use playback_parts::closing::put_incoming;
@@ -23,12 +25,14 @@ use playback_parts::facts::Kind;
 use playback_parts::facts::facts_of;
 use playback_parts::parts::Part;
 use playback_parts::parts::put_part;
+use receiver_state::Answer;
 use receiver_state::Answered;
 use receiver_state::report::report_of;
 use replaying::acting::Acted;
 use replaying::acting::act;
 use replaying::printing::Left;
 use replaying::printing::begin_line;
+use summary_lines::put_summary;
 use tape::Found;
 
 // ---- a call
@@ -61,9 +65,9 @@ fn doing_after(left: Left, facts: Facts, fs: &[f32]) -> Doing
 }
 
 // The beginning of a call's line, and where the replay is behind it.
-fn begun(v: Answered, facts: Facts, fs: &[f32], text: &mut [u8]) -> Wrote
+fn begun_full(v: Answered, facts: Facts, fs: &[f32], text: &mut [u8]) -> Wrote
     requires { ⌜ 170 ≤ length (now text) ⌝ }
-    ensures { λ w. ⌜ CallBegun v facts (now (fs .entry)) (now (text .entry)) (now (text .exit)) w ⌝ }
+    ensures { λ w. ⌜ CallBegun Form.Full v facts (now (fs .entry)) (now (text .entry)) (now (text .exit)) w ⌝ }
 {
     let side = facts.side;
     let next = facts.next;
@@ -82,6 +86,57 @@ fn begun(v: Answered, facts: Facts, fs: &[f32], text: &mut [u8]) -> Wrote
     }
 }
 
+// How many values of a row lie inside of what is lent.
+fn row_length(answer: Answer, facts: Facts, fs: &[f32]) -> usize
+    ensures { λ v. ⌜ v ≡ rowLength answer facts (length (now (fs .entry))) ⌝ }
+{
+    match answer {
+        Answer::Refused(_) => 0,
+        Answer::Accepted => 0,
+        Answer::Played {
+            taken: _,
+            dropped: _,
+            short: _,
+        } => 0,
+        Answer::NoRow => 0,
+        Answer::Row(n) => {
+            let from = least(facts.row, fs.len());
+            least(n, fs.len() - from)
+        }
+    }
+}
+
+// A call's line in a summary, which is all of it.
+fn begun_summary(v: Answered, facts: Facts, fs: &[f32], text: &mut [u8]) -> Wrote
+    requires { ⌜ 170 ≤ length (now text) ⌝ }
+    ensures { λ w. ⌜ CallBegun Form.Summary v facts (now (fs .entry)) (now (text .entry)) (now (text .exit)) w ⌝ }
+{
+    let side = facts.side;
+    let next = facts.next;
+    let receiver = v.receiver;
+    let answer = v.answer;
+    let values = row_length(answer, facts, fs);
+    let bytes = put_summary(text, side, answer, values);
+    Wrote {
+        playback: Playback {
+            receiver,
+            place: next,
+            doing: Doing::Call,
+        },
+        bytes,
+    }
+}
+
+fn begun(v: Answered, facts: Facts, fs: &[f32], text: &mut [u8], form: Form) -> Wrote
+    requires { ⌜ 170 ≤ length (now text) ⌝ }
+    ensures { λ w. ⌜ CallBegun form v facts (now (fs .entry)) (now (text .entry)) (now (text .exit)) w ⌝ }
+{
+    match form {
+        Form::Full => begun_full(v, facts, fs, text),
+        Form::Summary => begun_summary(v, facts, fs, text),
+    }
+}
+
 // The call that was found, and the beginning of its line.
 fn made(
     w: Playback,
@@ -92,14 +147,15 @@ fn made(
     facts: Facts,
     samples: &mut [f32],
     text: &mut [u8],
+    form: Form,
 ) -> Step
     requires { ⌜ MakeReady (now tape) w found facts (now text) ⌝ }
-    ensures { λ v. ⌜ StepDone (now (tape .entry)) w (now (fs .entry)) (now (us .entry)) (now (samples .entry)) (now (text .entry)) v (now (fs .exit)) (now (us .exit)) (now (samples .exit)) (now (text .exit)) ⌝ }
+    ensures { λ v. ⌜ DoneAs form (now (tape .entry)) w (now (fs .entry)) (now (us .entry)) (now (samples .entry)) (now (text .entry)) v (now (fs .exit)) (now (us .exit)) (now (samples .exit)) (now (text .exit)) ⌝ }
 {
     let r = w.receiver;
     let acted = act(r, fs, us, tape, found, samples);
     match acted {
-        Acted::Made(v) => Step::Written(begun(v, facts, fs, text)),
+        Acted::Made(v) => Step::Written(begun(v, facts, fs, text, form)),
         Acted::NoRoom => Step::NoRoom,
         Acted::NoCall => Step::NoRoom,
     }
@@ -210,9 +266,10 @@ fn called(
     tape: &[u8],
     samples: &mut [f32],
     text: &mut [u8],
+    form: Form,
 ) -> Step
     requires { ⌜ (w .doing ≡ Doing.Call) × (170 ≤ length (now text)) ⌝ }
-    ensures { λ v. ⌜ StepDone (now (tape .entry)) w (now (fs .entry)) (now (us .entry)) (now (samples .entry)) (now (text .entry)) v (now (fs .exit)) (now (us .exit)) (now (samples .exit)) (now (text .exit)) ⌝ }
+    ensures { λ v. ⌜ DoneAs form (now (tape .entry)) w (now (fs .entry)) (now (us .entry)) (now (samples .entry)) (now (text .entry)) v (now (fs .exit)) (now (us .exit)) (now (samples .exit)) (now (text .exit)) ⌝ }
 {
     let r = w.receiver;
     let z = r.sizes;
@@ -221,29 +278,30 @@ fn called(
     let facts = facts_of(z, tape, found);
     let kind = facts.kind;
     match kind {
-        Kind::Call => made(w, fs, us, tape, found, facts, samples, text),
+        Kind::Call => made(w, fs, us, tape, found, facts, samples, text, form),
         Kind::End => Step::Written(line_a(w, text)),
         Kind::Bad(at) => Step::Bad(at),
     }
 }
 
-// The next piece of what a replay prints, at the front of the text.
-pub fn step(
+// The next piece of what a replay prints in this form, at the front of the text.
+pub fn step_as(
     w: Playback,
     fs: &mut [f32],
     us: &mut [u32],
     tape: &[u8],
     samples: &mut [f32],
     text: &mut [u8],
+    form: Form,
 ) -> Step
-    ensures { λ v. ⌜ StepDone (now (tape .entry)) w (now (fs .entry)) (now (us .entry)) (now (samples .entry)) (now (text .entry)) v (now (fs .exit)) (now (us .exit)) (now (samples .exit)) (now (text .exit)) ⌝ }
+    ensures { λ v. ⌜ DoneAs form (now (tape .entry)) w (now (fs .entry)) (now (us .entry)) (now (samples .entry)) (now (text .entry)) v (now (fs .exit)) (now (us .exit)) (now (samples .exit)) (now (text .exit)) ⌝ }
 {
     if text.len() < PIECE {
         return Step::NoRoom;
     }
     let doing = w.doing;
     match doing {
-        Doing::Call => called(w, fs, us, tape, samples, text),
+        Doing::Call => called(w, fs, us, tape, samples, text, form),
         Doing::Samples { from, end } => {
             if !held(samples, from, end) {
                 return Step::NotHeld;
@@ -263,4 +321,18 @@ pub fn step(
         Doing::LineC => Step::Written(line_c(w, text)),
         Doing::Done => Step::Over,
     }
+}
+
+// The same with every line whole.
+pub fn step(
+    w: Playback,
+    fs: &mut [f32],
+    us: &mut [u32],
+    tape: &[u8],
+    samples: &mut [f32],
+    text: &mut [u8],
+) -> Step
+    ensures { λ v. ⌜ StepDone (now (tape .entry)) w (now (fs .entry)) (now (us .entry)) (now (samples .entry)) (now (text .entry)) v (now (fs .exit)) (now (us .exit)) (now (samples .exit)) (now (text .exit)) ⌝ }
+{
+    step_as(w, fs, us, tape, samples, text, Form::Full)
 }

@@ -10,27 +10,29 @@ use Rattle.model.specs.Receiver as Model
 use Rattle.model.specs.Tape.{Tape, TapeRead, readTape, badTape, read}
 use Rattle.model.specs.Replay.{refusedLine, badTapeLine, replayOver, replayWithin}
 use Rattle.model.proofs.BoolLaws.{clash}
-use Rattle.model.proofs.ReplaySteps.{lines-of-bad-tape, lines-of-refused-setup, lines-of-session}
 use Rattle.model.proofs.TapeWalk.{walk}
 use Rattle.tape.specs.declared.Setup.{Setup}
 use Rattle.tape.specs.declared.SetupRead.the-variants as setupRead
 use Rattle.tape.specs.Answers.{numbersOf, setupAnswer}
-use Rattle.receiver_setup.specs.Promises.{modelSetup}
+use Rattle.calls.specs.Views.{modelSetup}
 use Rattle.receiver_state.specs.View.{lentOf}
+use Rattle.playback_parts.specs.declared.Form.{Form}
+use Rattle.playback_parts.specs.Forms.{printedOver}
+use Rattle.playback_parts.proofs.FormLaws.{printed-of-bad-tape, printed-of-refused-setup, printed-of-session}
 use Rattle.playback_opening.specs.declared.Beginning.{Beginning}
 use Rattle.playback_opening.specs.declared.Beginning.the-variants as Beginning
 use Rattle.playback_parts.specs.Parts.{TextPut}
-use Rattle.playback_opening.specs.Beginnings.{SetupBegun, BegunTo}
+use Rattle.playback_opening.specs.Beginnings.{SetupBegun, BegunAs, BegunTo}
 
-module _ (tape : List ℕ) (fs : List Float) (us text : List ℕ) where
+module _ (form : Form) (tape : List ℕ) (fs : List Float) (us text : List ℕ) where
   -- a refused tape
   bad-read : (r : TapeRead) (place : ℕ) → setupRead.Bad place ≡ setupAnswer r → r ≡ badTape place
   bad-read (readTape t) place is = clash (cc)
   bad-read (badTape at) place is = cc
 
   pub bad-begun : (place n : ℕ) (text′ : List ℕ) → setupRead.Bad place ≡ setupAnswer (read tape) → TextPut (badTapeLine place) text text′ n
-      → BegunTo (replayOver (lentOf fs us) tape) tape fs us text (Beginning.Refused n) us text′
-  bad-begun place n text′ is put = (rw (lines-of-bad-tape (lentOf fs us) tape place (bad-read (read tape) place is)) put, refl)
+      → BegunAs form (printedOver form (lentOf fs us) tape) tape fs us text (Beginning.Refused n) us text′
+  bad-begun place n text′ is put = (rw (printed-of-bad-tape form (lentOf fs us) tape place (bad-read (read tape) place is)) put, refl)
 
   -- an accepted tape, and its setup
   record FrontFound (x : Setup) : Type 0 where
@@ -45,24 +47,25 @@ module _ (tape : List ℕ) (fs : List Float) (us text : List ℕ) where
   front-found (badTape place) x same is = clash (cc)
 
   pub setup-begun : (x : Setup) (v : Beginning) (us′ text′ : List ℕ) → setupRead.Found x ≡ setupAnswer (read tape)
-      → SetupBegun (modelSetup (x .sizes) (x .a) (x .b)) fs us text v us′ text′ → BegunTo (replayOver (lentOf fs us) tape) tape fs us text v us′ text′
+      → SetupBegun (modelSetup (x .sizes) (x .a) (x .b)) fs us text v us′ text′ → BegunAs form (printedOver form (lentOf fs us) tape) tape fs us text v us′ text′
   setup-begun x Beginning.NoRoom us′ text′ is begun = absurd begun
   setup-begun x (Beginning.Refused n) us′ text′ is begun =
       let front = front-found (read tape) x refl is in
-      (rw (lines-of-refused-setup (lentOf fs us) tape (front .whole) (begun .number) (front .is) (rw (← front .setup) (begun .refuses))) (begun .put), begun .words-kept)
+      (rw (printed-of-refused-setup form (lentOf fs us) tape (front .whole) (begun .number) (front .is) (rw (← front .setup) (begun .refuses))) (begun .put), begun .words-kept)
   setup-begun x (Beginning.Playing w) us′ text′ is begun =
       let front = front-found (read tape) x refl is in
       record {
         calls = front .whole .calls;
         met = rw (begun .first-place) (walk tape (front .whole) (front .is));
         doing = begun .doing;
-        prints = rw (begun .word-length) (sym (lines-of-session (lentOf fs us) tape (front .whole) _ (front .is) (rw (← front .setup) (begun .opens))));
+        prints = rw (begun .word-length) (sym (printed-of-session form (lentOf fs us) tape (front .whole) _ (front .is) (rw (← front .setup) (begun .opens))));
         word-length = begun .word-length;
         text-kept = begun .text-kept;
       }
 
-  -- ---- within a limit
+-- ---- within a limit
 
+module _ (tape : List ℕ) (fs : List Float) (us text : List ℕ) where
   pub too-long-begun : (words n : ℕ) (text′ : List ℕ) → leb (length tape) (4 * words) ≡ false → TextPut (badTapeLine words) text text′ n
       → BegunTo (replayWithin (lentOf fs us) words tape) tape fs us text (Beginning.Refused n) us text′
   unfolding replayWithin

@@ -5,7 +5,7 @@ ghost use Prim.Native.Nat.{_≤_};
 ghost use lib.ListN.{length};
 ghost use Rattle.model.specs.Replay.{refusedLine, badTapeLine, replayOver};
 ghost use Rattle.receiver_state.specs.View.{lentOf};
-ghost use Rattle.receiver_setup.specs.Promises.{modelSetup};
+ghost use Rattle.calls.specs.Views.{modelSetup};
 ghost use Rattle.playback_parts.specs.Parts.{TextPut};
 ghost use Rattle.playback_opening.specs.Beginnings.{SetupBegun, BegunTo};
 use playback_parts::Doing;
@@ -35,7 +35,7 @@ fn put_refused(text: &mut [u8], n: u32) -> usize
 }
 
 // The line of a refused tape.
-fn put_bad_tape(text: &mut [u8], place: usize) -> usize
+pub fn put_bad_tape(text: &mut [u8], place: usize) -> usize
     requires { ⌜ 170 ≤ length (now text) ⌝ }
     ensures { λ v. ⌜ TextPut (badTapeLine place) (now (text .entry)) (now (text .exit)) v ⌝ }
 {
@@ -44,7 +44,7 @@ fn put_bad_tape(text: &mut [u8], place: usize) -> usize
 }
 
 // Setup by what a tape says.
-fn set_up(setup: Setup, fs: &[f32], us: &mut [u32], text: &mut [u8]) -> Beginning
+pub fn set_up(setup: Setup, fs: &[f32], us: &mut [u32], text: &mut [u8]) -> Beginning
     requires { ⌜ 170 ≤ length (now text) ⌝ }
     ensures { λ v. ⌜ SetupBegun (modelSetup (setup .sizes) (setup .a) (setup .b)) (now (fs .entry)) (now (us .entry)) (now (text .entry)) v (now (us .exit)) (now (text .exit)) ⌝ }
 {

@@ -9,6 +9,14 @@ use receiver_state::Receiver;
 // No piece is longer.
 pub const PIECE: usize = 170;
 
+// What is printed of a tape.
+pub enum Form {
+    // Every line whole.
+    Full,
+    // A play's line without its samples, and of a row its length.
+    Summary,
+}
+
 // What a step prints next.
 pub enum Doing {
     // The line of the call at the place, as far as its values.

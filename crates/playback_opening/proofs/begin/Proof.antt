@@ -1,5 +1,6 @@
 -- `playback_opening::begin` meets its contract. Assumes nothing.
 use mathlib.Core.Path.{sym, _∙_}
+use Rattle.playback_parts.specs.declared.Form.the-variants as Form
 use Rattle.playback_opening.proofs.Begins.{bad-begun, setup-begun}
 use borrow.Author.Needs.{needs}
 use Rattle.playback_opening.proofs.begin.Statement.{statement}
@@ -31,7 +32,7 @@ returns-2 c =
     let s = c .before .before .before .before .before .before .before .before .before .before .before .before .before in
     let g = s .args in
     let k = c .before .before .before .before .before .front .given in
-    bad-begun (g .tape .now) (g .fs .now) (g .us .now) (g .text .now) (k .0 .0) _ _ (sym (k .1) ∙ c .before .before .before .before .before .before .before .setup-of .ensures .answers) (c .before .before .put-bad-tape .ensures)
+    bad-begun Form.Full (g .tape .now) (g .fs .now) (g .us .now) (g .text .now) (k .0 .0) _ _ (sym (k .1) ∙ c .before .before .before .before .before .before .before .setup-of .ensures .answers) (c .before .before .put-bad-tape .ensures)
 
 same-length-2 : tie.Need-same-length-2
 same-length-2 c = search needs
@@ -45,7 +46,7 @@ returns-3 c =
     let g = s .args in
     let k = c .before .before .before .before .before .before .before .before .front2 .given in
     let v = c .before .before .before .before .set-up in
-    setup-begun (g .tape .now) (g .fs .now) (g .us .now) (g .text .now) (k .0 .0) (v .result) (v .last .1 .1 .0) (v .last .1 .1 .1 .0) (sym (k .1) ∙ c .before .before .before .before .before .before .before .before .before .before .setup-of .ensures .answers) (v .ensures)
+    setup-begun Form.Full (g .tape .now) (g .fs .now) (g .us .now) (g .text .now) (k .0 .0) (v .result) (v .last .1 .1 .0) (v .last .1 .1 .1 .0) (sym (k .1) ∙ c .before .before .before .before .before .before .before .before .before .before .setup-of .ensures .answers) (v .ensures)
 
 pub begin-spec : {M : Type 1} → statement M
 begin-spec =

@@ -58,7 +58,7 @@ returns-2 c =
     let s = c .before .before .before .before .before .before .before .before .before .before .before .before .before .before .before in
     let g = s .args in
     let known = rw (c .before .before .before .before .before .before .before .call-at .ensures .same) at (c .before .before .before .before .before .before .facts-of .ensures) in
-    line-a-written (g .tape .now) (g .w) (g .fs .now) (g .us .now) (g .samples .now) (g .text .now) _ _ (s .pre .0) (end-found _ _ _ known (c .before .before .before .before .enum-told2 .given .1)) (c .before .before .line-a .ensures)
+    line-a-written (g .form) (g .tape .now) (g .w) (g .fs .now) (g .us .now) (g .samples .now) (g .text .now) _ _ (s .pre .0) (end-found _ _ _ known (c .before .before .before .before .enum-told2 .given .1)) (c .before .before .line-a .ensures)
 
 returns-3 : tie.Need-returns-3
 returns-3 c =

@@ -40,7 +40,7 @@ returns c =
     let g = s .args in
     let k = c .before .before .before .before .before .before .acted .given in
     let are = slice-are-bytes (g .tape .now) (c .before .before .before .before .before .before .before .before .before .before .before .before .before .before .before .before .before .before .before .before .before .shared-slice-known .given) in
-    made-written (g .tape .now) (g .w) (g .facts) (s .pre .doing) (callAt (g .tape .now) (g .w .place)) refl (s .pre .facts-are) are (g .fs .now) (g .us .now) (g .samples .now) (g .text .now) (k .0 .0) _ _ _ _ _
+    made-written (g .tape .now) (g .w) (g .facts) (s .pre .doing) (g .form) (callAt (g .tape .now) (g .w .place)) refl (s .pre .facts-are) are (g .fs .now) (g .us .now) (g .samples .now) (g .text .now) (k .0 .0) _ _ _ _ _
     (rw (k .1, s .pre .found-is .same) at (c .before .before .before .before .before .before .before .before .before .before .before .before .before .before .act .ensures)) (c .before .before .begun .ensures)
 
 same-length-5 : tie.Need-same-length-5

@@ -1,4 +1,4 @@
--- `playback::stepping::step` meets its contract. Assumes nothing.
+-- `playback::stepping::step_as` meets its contract. Assumes nothing.
 use mathlib.Core.Path.{refl, sym, _∙_}
 use native.Mathlib.Omega.{arith}
 use lib.ListN.{length}
@@ -6,8 +6,8 @@ use borrow.Author.Tests.{not-true, lt-leb}
 use Rattle.playback.proofs.Walks.{values-inside}
 use Rattle.playback.proofs.Written.{samples-written, values-written, line-b-written, line-i-written, line-c-written}
 use borrow.Author.Needs.{needs}
-use Rattle.playback.proofs.stepping.step.Statement.{statement}
-use Rattle.playback.proofs.stepping.step.Tie as tie
+use Rattle.playback.proofs.stepping.step_as.Statement.{statement}
+use Rattle.playback.proofs.stepping.step_as.Tie as tie
 
 returns : tie.Need-returns
 returns c = (rw (lt-leb 170 (length (c .before .before .before .before .before .before .args .text .now)) (c .if1 .taken)), ((refl, refl, refl), refl))
@@ -108,7 +108,7 @@ returns-5 c =
     let g = s .args in
     let k = c .before .before .before .before .before .before .before .before .before .before .doing .given in
     let inside = values-inside (k .0 .0) (k .0 .1 .0) (g .samples .now) (c .before .before .before .before .before .before .before .held .result) (c .before .before .before .before .before .before .before .held .ensures) (c .before .before .before .before .before .before .if2 .left) in
-    rw (c .samples-left .ensures) (samples-written (g .tape .now) (g .w) (g .fs .now) (g .us .now) (g .samples .now) (g .text .now) _ (k .0 .0) (k .0 .1 .0) _ (k .1) (inside .1) (c .before .before .before .put-part .ensures))
+    rw (c .samples-left .ensures) (samples-written (g .form) (g .tape .now) (g .w) (g .fs .now) (g .us .now) (g .samples .now) (g .text .now) _ (k .0 .0) (k .0 .1 .0) _ (k .1) (inside .1) (c .before .before .before .put-part .ensures))
 
 same-length-9 : tie.Need-same-length-9
 same-length-9 c = search needs
@@ -122,7 +122,7 @@ returns-6 c =
     let g = s .args in
     let k = c .before .before .before .before .before .before .before .before .before .before .doing2 .given in
     let inside = values-inside (k .0 .0) (k .0 .1 .0) (g .fs .now) (c .before .before .before .before .before .before .before .held2 .result) (c .before .before .before .before .before .before .before .held2 .ensures) (c .before .before .before .before .before .before .if3 .left) in
-    rw (c .values-left .ensures) (values-written (g .tape .now) (g .w) (g .fs .now) (g .us .now) (g .samples .now) (g .text .now) _ (k .0 .0) (k .0 .1 .0) _ (k .1) (inside .1) (c .before .before .before .put-part2 .ensures))
+    rw (c .values-left .ensures) (values-written (g .form) (g .tape .now) (g .w) (g .fs .now) (g .us .now) (g .samples .now) (g .text .now) _ (k .0 .0) (k .0 .1 .0) _ (k .1) (inside .1) (c .before .before .before .put-part2 .ensures))
 
 same-length-11 : tie.Need-same-length-11
 same-length-11 c = search needs
@@ -131,7 +131,7 @@ returns-7 : tie.Need-returns-7
 returns-7 c =
     let s = c .before .before .before .before .before .before .before .before .before .before .before .before in
     let g = s .args in
-    line-b-written (g .tape .now) (g .w) (g .fs .now) (g .us .now) (g .samples .now) (g .text .now) _ _ (c .before .before .before .before .enum-told2 .given .1) (c .before .before .line-b .ensures)
+    line-b-written (g .form) (g .tape .now) (g .w) (g .fs .now) (g .us .now) (g .samples .now) (g .text .now) _ _ (c .before .before .before .before .enum-told2 .given .1) (c .before .before .line-b .ensures)
 
 same-length-12 : tie.Need-same-length-12
 same-length-12 c = search needs
@@ -140,7 +140,7 @@ returns-8 : tie.Need-returns-8
 returns-8 c =
     let s = c .before .before .before .before .before .before .before .before .before .before .before .before in
     let g = s .args in
-    line-i-written (g .tape .now) (g .w) (g .fs .now) (g .us .now) (g .samples .now) (g .text .now) _ _ (c .before .before .before .before .enum-told3 .given .1) (c .before .before .line-i .ensures)
+    line-i-written (g .form) (g .tape .now) (g .w) (g .fs .now) (g .us .now) (g .samples .now) (g .text .now) _ _ (c .before .before .before .before .enum-told3 .given .1) (c .before .before .line-i .ensures)
 
 same-length-13 : tie.Need-same-length-13
 same-length-13 c = search needs
@@ -149,13 +149,13 @@ returns-9 : tie.Need-returns-9
 returns-9 c =
     let s = c .before .before .before .before .before .before .before .before .before .before .before .before in
     let g = s .args in
-    line-c-written (g .tape .now) (g .w) (g .fs .now) (g .us .now) (g .samples .now) (g .text .now) _ _ (c .before .before .before .before .enum-told4 .given .1) (c .before .before .line-c .ensures)
+    line-c-written (g .form) (g .tape .now) (g .w) (g .fs .now) (g .us .now) (g .samples .now) (g .text .now) _ _ (c .before .before .before .before .enum-told4 .given .1) (c .before .before .line-c .ensures)
 
 returns-10 : tie.Need-returns-10
 returns-10 c = search needs
 
-pub step-spec : {M : Type 1} → statement M
-step-spec =
+pub step-as-spec : {M : Type 1} → statement M
+step-as-spec =
     tie.close
     (tie.spec
     returns
