@@ -9,9 +9,8 @@ fn replay(tape: &[u8]) {
     }
     let mut fs = [0.0f32; 16384];
     let mut us = [0u32; 16384];
-    let mut samples = [0.0f32; 65535];
-    let mut text = io::large_buffer();
-    output::print(tape, &mut fs, &mut us, &mut samples, &mut text);
+    let mut text = [0u8; 8192];
+    output::print(tape, &mut fs, &mut us, &mut text);
 }
 
 // Of a longer tape one byte more than the limit is read.

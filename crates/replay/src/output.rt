@@ -6,12 +6,23 @@ ghost use lib.ListN.{length};
 ghost use Rattle.playback.specs.Steps.{turnsLeft};
 use libc::STDERR_FILENO;
 use libc::STDOUT_FILENO;
-use playback::Step;
 use playback::Turn;
-use playback::stepping::step;
 use playback_opening::Beginning;
 use playback_opening::limits::begin_limited;
+use playback_parts::Form;
 use playback_parts::Playback;
+use playback_pieces::Stop;
+use playback_pieces::pieces;
+use tape::Found;
+
+// No place of a tape is behind it.
+const EVERY_PLACE: usize = 0xffff_ffff_ffff_ffff;
+
+// Where a loop of pieces is, and whether standard output could not be written.
+struct Printing {
+    turn: Turn,
+    failed: bool,
+}
 
 // A sentence on standard error.
 pub fn say(sentence: &[u8]) {
@@ -34,7 +45,17 @@ fn put_piece(text: &[u8], n: usize) -> bool
     put(&text[..n])
 }
 
-// A step, and what it wrote.
+// Whether to go on where the text was full: it was written, and something stood in it.
+fn goes_on(n: usize, written: bool) -> bool
+    ensures { λ r. ⌜ (r ≡ true → 0 < n) ⌝ }
+{
+    if n == 0 {
+        return false;
+    }
+    written
+}
+
+// As many pieces as the text has room for, written at once.
 fn next(
     t: Turn,
     tape: &[u8],
@@ -42,27 +63,43 @@ fn next(
     us: &mut [u32],
     samples: &mut [f32],
     text: &mut [u8],
-) -> Turn
+) -> Printing
     requires { ⌜ t .going ≡ true ⌝ }
-    ensures { λ r. ⌜ turnsLeft (now (tape .entry)) r (now (fs .exit)) (now (samples .exit)) < turnsLeft (now (tape .entry)) t (now (fs .entry)) (now (samples .entry)) ⌝ }
+    ensures { λ r. ⌜ turnsLeft (now (tape .entry)) (r .turn) (now (fs .exit)) (now (samples .exit)) < turnsLeft (now (tape .entry)) t (now (fs .entry)) (now (samples .entry)) ⌝ }
 {
     let w = t.playback;
-    let stepped = step(w, fs, us, tape, samples, text);
-    let Step::Written(v) = stepped else {
-        return Turn {
-            playback: w,
-            going: false,
-        };
-    };
-    let n = v.bytes;
-    let playback = v.playback;
-    Turn {
-        playback,
-        going: put_piece(text, n),
+    let gathered = pieces(w, fs, us, tape, EVERY_PLACE, samples, text, Form::Full);
+    let n = gathered.bytes;
+    let playback = gathered.playback;
+    let stop = gathered.stop;
+    let written = put_piece(text, n);
+    let failed = !written;
+    match stop {
+        Stop::Full => Printing {
+            turn: Turn {
+                playback,
+                going: goes_on(n, written),
+            },
+            failed,
+        },
+        Stop::Far => Printing {
+            turn: Turn {
+                playback,
+                going: false,
+            },
+            failed,
+        },
+        Stop::Ended => Printing {
+            turn: Turn {
+                playback,
+                going: false,
+            },
+            failed,
+        },
     }
 }
 
-// All steps.
+// Pieces as long as they come.
 fn steps(
     w: Playback,
     tape: &[u8],
@@ -70,23 +107,70 @@ fn steps(
     us: &mut [u32],
     samples: &mut [f32],
     text: &mut [u8],
-) {
-    let mut t = Turn {
-        playback: w,
-        going: true,
+) -> Printing {
+    let mut p = Printing {
+        turn: Turn {
+            playback: w,
+            going: true,
+        },
+        failed: false,
     };
-    while t.going {
-        t = next(t, tape, fs, us, samples, text);
+    while p.turn.going {
+        p = next(p.turn, tape, fs, us, samples, text);
     }
+    p
 }
 
-pub fn print(tape: &[u8], fs: &mut [f32], us: &mut [u32], samples: &mut [f32], text: &mut [u8]) {
+// The rest of a replay in which a play asks for many samples.
+fn with_many_samples(w: Playback, tape: &[u8], fs: &mut [f32], us: &mut [u32], text: &mut [u8]) {
+    let mut samples = [0.0f32; 65535];
+    steps(w, tape, fs, us, &mut samples, text);
+}
+
+// The samples that the call at a place asks for.
+fn asked_at(tape: &[u8], place: usize) -> usize {
+    let found = tape::reader::call_at(tape, place);
+    let Found::Play {
+        side: _,
+        samples,
+        next: _,
+    } = found
+    else {
+        return 0;
+    };
+    samples as usize
+}
+
+// The rest of a replay whose next call asks for so many samples. Most plays ask for few, and memory that is not touched
+// costs nothing: those for many are laid out when such a play comes. (A function that calls itself takes no large memory
+// into its own.)
+fn play(w: Playback, asked: usize, tape: &[u8], fs: &mut [f32], us: &mut [u32], text: &mut [u8]) {
+    if 1024 < asked {
+        with_many_samples(w, tape, fs, us, text);
+        return;
+    }
+    let mut samples = [0.0f32; 1024];
+    let printed = steps(w, tape, fs, us, &mut samples, text);
+    if printed.failed {
+        return;
+    }
+    let turn = printed.turn;
+    let left = turn.playback;
+    let place = left.place;
+    let more = asked_at(tape, place);
+    if more <= 1024 {
+        return;
+    }
+    play(left, more, tape, fs, us, text);
+}
+
+pub fn print(tape: &[u8], fs: &mut [f32], us: &mut [u32], text: &mut [u8]) {
     let begun = begin_limited(fs, us, tape, text);
     match begun {
         Beginning::NoRoom => {}
         Beginning::Refused(n) => {
             put_piece(text, n);
         }
-        Beginning::Playing(w) => steps(w, tape, fs, us, samples, text),
+        Beginning::Playing(w) => play(w, 0, tape, fs, us, text),
     }
 }

@@ -21,8 +21,8 @@ put-piece-requires c κs =
 enum-known-begun-2 : tie.Need-enum-known-begun-2
 enum-known-begun-2 c = search needs
 
-steps-requires : tie.Need-steps-requires
-steps-requires c κs = search needs
+play-requires : tie.Need-play-requires
+play-requires c κs = search needs
 
 same-length : tie.Need-same-length
 same-length c = search needs
@@ -57,9 +57,6 @@ same-length-8 c = search needs
 same-length-9 : tie.Need-same-length-9
 same-length-9 c = search needs
 
-same-length-10 : tie.Need-same-length-10
-same-length-10 c = search needs
-
 returns-3 : tie.Need-returns-3
 returns-3 c = search needs
 
@@ -72,7 +69,7 @@ print-spec =
     enum-known-begun
     put-piece-requires
     enum-known-begun-2
-    steps-requires
+    play-requires
     same-length
     same-length-2
     same-length-3
@@ -84,5 +81,4 @@ print-spec =
     same-length-7
     same-length-8
     same-length-9
-    same-length-10
     returns-3)

@@ -7,10 +7,10 @@ use Rattle.replay.proofs.output.steps.Statement.{statement}
 use Rattle.replay.proofs.output.steps.Tie as tie
 
 abbrev Inv-loop : tie.InvT-loop
-Inv-loop tape fs₀ us₀ samples₀ text₀ t₀ fs us samples text t = (length fs ≡ length fs₀) × (length us ≡ length us₀) × (length samples ≡ length samples₀) × (length text ≡ length text₀)
+Inv-loop tape fs₀ us₀ samples₀ text₀ p₀ fs us samples text p = (length fs ≡ length fs₀) × (length us ≡ length us₀) × (length samples ≡ length samples₀) × (length text ≡ length text₀)
 
 abbrev μ-loop : tie.MeasureT-loop
-μ-loop tape fs₀ us₀ samples₀ text₀ t₀ fs us samples text t = turnsLeft tape t fs samples
+μ-loop tape fs₀ us₀ samples₀ text₀ p₀ fs us samples text p = turnsLeft tape (p .turn) fs samples
 
 loop-holds : tie.Need-loop-holds Inv-loop μ-loop
 loop-holds c = search needs
