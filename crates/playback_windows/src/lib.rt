@@ -3,7 +3,9 @@
 // its caller.
 ghost use mathlib.Core.Path.{_≡_};
 ghost use Rattle.playback.specs.Steps.{makesCall};
+ghost use Rattle.playback_pieces.specs.Gathered.{moment};
 ghost use Rattle.playback_windows.specs.Promises.{SteppedIn, movedOn, BegunIn, RefusedIn};
+ghost use Rattle.playback_windows.specs.Pieces.{ReachOf, PiecesIn};
 use playback::Step;
 use playback::stepping::step_as;
 use playback_opening::Beginning;
@@ -13,9 +15,14 @@ use playback_parts::Doing;
 use playback_parts::Form;
 use playback_parts::PIECE;
 use playback_parts::Playback;
+use playback_pieces::Gathered;
+use playback_pieces::pieces;
 use tape::Setup;
 use tape_windows::LONGEST_CALL;
 use tape_windows::has_words;
+
+// No place lies behind it.
+const EVERY_PLACE: usize = 0xffff_ffff_ffff_ffff;
 
 // What a step through a window answers.
 pub enum StepIn {
@@ -61,6 +68,38 @@ pub fn step_in(
         }
     }
     StepIn::Whole(step_as(w, fs, us, window, samples, text, form))
+}
+
+// The first place from which on the window may not have a call whole.
+fn reach(window: &[u8], last: bool) -> usize
+    ensures { λ r. ⌜ ReachOf (now (window .entry)) last r ⌝ }
+{
+    if last {
+        return EVERY_PLACE;
+    }
+    let whole = window.len() / 4;
+    if whole < LONGEST_CALL {
+        return 0;
+    }
+    whole - (LONGEST_CALL - 1)
+}
+
+// As many pieces of what is printed of the tape as the text has room for, at its front. They stop before a call that the window may
+// not have whole.
+pub fn pieces_in(
+    w: Playback,
+    fs: &mut [f32],
+    us: &mut [u32],
+    window: &[u8],
+    last: bool,
+    samples: &mut [f32],
+    text: &mut [u8],
+    form: Form,
+) -> Gathered
+    ensures { λ v. ⌜ PiecesIn form (now (window .entry)) last (moment w (now (fs .entry)) (now (us .entry)) (now (samples .entry))) (now (text .entry)) v (moment (v .playback) (now (fs .exit)) (now (us .exit)) (now (samples .exit))) (now (text .exit)) ⌝ }
+{
+    let until = reach(window, last);
+    pieces(w, fs, us, window, until, samples, text, form)
 }
 
 // The same replay, with its place counted from so many words further on: those words of the window are done with.
