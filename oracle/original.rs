@@ -114,6 +114,35 @@ impl Original {
         }
     }
 
+    // The numbers of the closing lines of A and of B, where plays found so many samples short, and those of the line I.
+    pub fn closing_numbers(&self, packet: usize, short: [usize; 2]) -> ([[u64; 8]; 2], [u64; 7]) {
+        let sound = [0, 1].map(|side| {
+            let j = self.jitter[side].lock().unwrap();
+            let filled = short[side] as u64 + packet as u64 * j.packets_missing_concealed;
+            [
+                j.packets_received,
+                j.packets_inserted,
+                j.packets_missing_concealed,
+                j.packets_dropped_late,
+                j.packets_dropped_overflow,
+                j.packets_dropped_invalid_size,
+                j.resync_count,
+                filled,
+            ]
+        });
+        let s = self.stats.lock().unwrap();
+        let datagrams = [
+            s.incoming_packets,
+            s.audio_packets,
+            s.waterfall_packets,
+            s.dropped_audio_packets,
+            s.dropped_waterfall_packets,
+            s.late_audio_packets,
+            s.late_waterfall_packets,
+        ];
+        (sound, datagrams)
+    }
+
     // top, floor and range
     pub fn estimates(&self, channel: usize) -> [f32; 3] {
         let u = self.ui.lock().unwrap();

@@ -32,7 +32,7 @@ use original::Settings;
 use questions::{setup_verdict, Call};
 use random::Random;
 use receiver_side::{Ours, CALLS, CLOCK, INCOMING, WORDS};
-use replaying::{closing_lines, or_dash, play_line, row_line, session_of, AREA, LETTERS};
+use replaying::{closing_lines, or_dash, play_line, row_line, session_of, AREA, LETTERS, MOST_BYTES};
 use std::collections::BTreeMap;
 use std::fs::{self, File};
 use std::process::{exit, Command};
@@ -57,7 +57,7 @@ struct Expected {
 
 fn expected(tape: &[u8]) -> Expected {
     let mut e = Expected { replay: String::new(), state: String::new(), had: Default::default() };
-    let (setup, calls) = match session_of(tape) {
+    let (setup, calls) = match session_of(tape, MOST_BYTES) {
         Ok(session) => session,
         Err(line) => return Expected { replay: line, ..e },
     };

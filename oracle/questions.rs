@@ -97,7 +97,7 @@ pub fn own_verdict(z: Sizes, c: &Call) -> Option<u64> {
     }
 }
 
-fn datagram_verdict(z: Sizes, d: &[u8]) -> Option<u64> {
+pub fn datagram_verdict(z: Sizes, d: &[u8]) -> Option<u64> {
     if !(16..=65_535).contains(&d.len()) {
         return Some(6);
     }

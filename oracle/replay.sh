@@ -16,4 +16,4 @@ if [ -z "${REPLAY:-}" ]; then
 fi
 [ -f "$REPLAY" ] && [ -x "$REPLAY" ] || { echo "no program at '$REPLAY'" >&2; exit 2; }
 mkdir -p "$root/target"
-run replay "$(realpath "$REPLAY")" "$seed" "$tapes" "$root/target/replay-differs-$seed.tape"
+run replay replay "$(realpath "$REPLAY")" "$seed" "$tapes" "$root/target/replay-differs-$seed.tape"

@@ -4,30 +4,34 @@ use crate::questions::{Call, Setup};
 use crate::tape_words::{Call as Taped, Tape};
 use std::fmt::Write;
 
-// the lengths of the areas, and the most bytes of a tape
+// the lengths of the areas of the program replay, and the most bytes of a tape
 pub const AREA: usize = 16_384;
 pub const MOST_BYTES: usize = 65_536;
+
+// the areas of the program play, which takes a tape of any length
+pub const FLOATS: usize = 868_277;
+pub const WORDS: usize = 33_816_576;
 
 pub const LETTERS: [char; 2] = ['A', 'B'];
 
 // ---- tapes
 
 // the setup and the calls, or the line of a refusal
-pub fn session_of(tape: &[u8]) -> Result<(Setup, Vec<Call>), String> {
-    if tape.len() > MOST_BYTES {
-        return Err(format!("X 11 {}\n", MOST_BYTES / 4));
+pub fn session_of(tape: &[u8], most: usize) -> Result<(Setup, Vec<Call>), String> {
+    if tape.len() > most {
+        return Err(format!("X 11 {}\n", most / 4));
     }
     let (words, calls) = (Tape { bytes: tape }).read().map_err(|place| format!("X 11 {place}\n"))?;
     Ok((setup_of(&words), calls.into_iter().map(call_of).collect()))
 }
 
 // a tape's words as a setup
-fn setup_of(words: &[u32; 12]) -> Setup {
+pub fn setup_of(words: &[u32; 12]) -> Setup {
     Setup { sizes: std::array::from_fn(|i| words[i] as usize), estimates: std::array::from_fn(|i| f32::from_bits(words[6 + i])) }
 }
 
 // a call of a tape as one of a receiver
-fn call_of(c: Taped) -> Call {
+pub fn call_of(c: Taped) -> Call {
     match c {
         Taped::Datagram(d) => Call::Datagram(d),
         Taped::Play(side, n) => Call::Play(side as usize, n as usize),

@@ -134,40 +134,22 @@ impl Session {
     }
 
     fn closing(&mut self) {
-        let sound = [0, 1].map(|side| {
-            let j = self.original.jitter[side].lock().unwrap();
-            let filled = self.short[side] as u64 + self.sizes.0[0] as u64 * j.packets_missing_concealed;
-            [
-                j.packets_received,
-                j.packets_inserted,
-                j.packets_missing_concealed,
-                j.packets_dropped_late,
-                j.packets_dropped_overflow,
-                j.packets_dropped_invalid_size,
-                j.resync_count,
-                filled,
-            ]
-        });
-        let s = self.original.stats.lock().unwrap();
-        let datagrams = [
-            s.incoming_packets,
-            s.audio_packets,
-            s.waterfall_packets,
-            s.dropped_audio_packets,
-            s.dropped_waterfall_packets,
-            s.late_audio_packets,
-            s.late_waterfall_packets,
-        ];
+        let (sound, datagrams) = self.original.closing_numbers(self.sizes.0[0], self.short);
         closing_lines(&mut self.text, sound, datagrams, &clock_words(&self.clock));
     }
 }
 
 pub fn replay(tape: &[u8]) -> String {
-    let (setup, calls) = match session_of(tape) {
+    replay_over(tape, MOST_BYTES, AREA, AREA)
+}
+
+// with a most of bytes and areas of these lengths
+pub fn replay_over(tape: &[u8], most: usize, floats: usize, words: usize) -> String {
+    let (setup, calls) = match session_of(tape, most) {
         Ok(session) => session,
         Err(line) => return line,
     };
-    if let Some(number) = setup_verdict(&setup, AREA, AREA) {
+    if let Some(number) = setup_verdict(&setup, floats, words) {
         return format!("X {number}\n");
     }
     let mut session = Session::new(&setup);

@@ -1,7 +1,7 @@
-# What ./replay and ./list share: a command that gives a tape to a proved program and tells by its status what came of it.
-# The command has set, before it reads this file: root, the folder it stands in; name, its own, with which each of its sentences
-# begins; crate, its program's; first_time, how long the first build takes; and the function usage.
-# It then calls take_words, open_tape, build and run_program, in this order.
+# What ./replay, ./list and ./play share: a command that gives a tape to a proved program and tells by its status what came of
+# it. The command has set, before it reads this file: root, the folder it stands in; name, its own, with which each of its
+# sentences begins; crate, its program's; first_time, how long the first build takes; and the function usage.
+# ./replay and ./list then call take_words, open_tape, build and run_program, in this order.
 
 give_up() {
   printf '%s: %s\n' "$name" "$*" >&2
@@ -16,16 +16,28 @@ if [ -e /dev/fd/0 ]; then has_input=yes; else has_input=no; exec 0< /dev/null; f
 program=$root/target/bin/$crate
 log=$root/target/$name-build.log
 
+# Prints the usage that was asked for.
+give_usage() {
+  usage 2> /dev/null || give_up "standard output could not be written"
+  exit 0
+}
+
 # Takes the words of the command line, and puts the tape's name into tape.
 take_words() {
   case $#:${1-} in
-    1:-h | 1:--help) usage 2> /dev/null || give_up "standard output could not be written"; exit 0 ;;
+    1:-h | 1:--help) give_usage ;;
     0:) tape=$root/examples/session.tape ;;
     1:-) tape=- ;;
     1:-*) usage >&2; exit 2 ;;
     1:*) tape=$1 ;;
     *) usage >&2; exit 2 ;;
   esac
+}
+
+# The tape must be there, and no folder.
+find_tape() {
+  [ -e "$tape" ] || give_up "there is no file '$tape'"
+  [ ! -d "$tape" ] || give_up "'$tape' is a folder, not a tape"
 }
 
 # Puts the tape at descriptor 3, before anything is built for it.
@@ -35,8 +47,7 @@ open_tape() {
     exec 3<&0
     return
   fi
-  [ -e "$tape" ] || give_up "there is no file '$tape'"
-  [ ! -d "$tape" ] || give_up "'$tape' is a folder, not a tape"
+  find_tape
   { exec 3< "$tape"; } 2> /dev/null || give_up "'$tape' cannot be read"
 }
 
