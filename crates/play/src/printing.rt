@@ -1,9 +1,10 @@
 // What a replay prints, to standard output, window by window.
 ghost use mathlib.Core.Bool.{false};
 ghost use mathlib.Core.Path.{_≡_};
-ghost use Prim.Native.Nat.{_+_, _*_, _≤_};
+ghost use Prim.Native.Nat.{ℕ, _+_, _*_, _≤_};
 ghost use lib.ListN.{length};
-ghost use Rattle.play.specs.Windows.{ReachedBy, ThroughIn, FewerSteps, Gone};
+ghost use Rattle.playback_pieces.specs.Gathered.{moment};
+ghost use Rattle.play.specs.Windows.{ReachedBy, ThroughIn, FewerSteps, StepsOn, Gone, OverWhereDone, SameReplay, StepsTo};
 use crate::progress;
 use crate::progress::Progress;
 use crate::saying;
@@ -96,6 +97,7 @@ fn write_pieces(
     text: &mut [u8],
     form: Form,
 ) -> Through
+    ensures { λ r. ⌜ ((base : ℕ) → StepsOn form (now (window .entry)) last base (moment w (now (fs .entry)) (now (us .entry)) (now (samples .entry))) base (moment (r .playback) (now (fs .exit)) (now (us .exit)) (now (samples .exit)))) ⌝ }
     ensures { λ r. ⌜ ThroughIn (now (window .entry)) last w r × FewerSteps (now (window .entry)) w (now (fs .entry)) (now (samples .entry)) r (now (fs .exit)) (now (samples .exit)) ⌝ }
 {
     let gathered = pieces_in(w, fs, us, window, last, samples, text, form);
@@ -123,6 +125,7 @@ fn write_through(
     text: &mut [u8],
     form: Form,
 ) -> Through
+    ensures { λ r. ⌜ ((base : ℕ) → StepsOn form (now (window .entry)) last base (moment w (now (fs .entry)) (now (us .entry)) (now (samples .entry))) base (moment (r .playback) (now (fs .exit)) (now (us .exit)) (now (samples .exit)))) ⌝ }
     ensures { λ r. ⌜ ThroughIn (now (window .entry)) last w r ⌝ }
 {
     let mut p = w;
@@ -147,7 +150,9 @@ fn write_through(
 }
 
 // How a replay ends whose next step writes nothing.
-fn ending_at(doing: Doing) -> Ending {
+fn ending_at(doing: Doing) -> Ending
+    ensures { λ r. ⌜ OverWhereDone r doing ⌝ }
+{
     match doing {
         Doing::Done => Ending::Over,
         Doing::Call => Ending::Changed,
@@ -162,7 +167,7 @@ fn ending_at(doing: Doing) -> Ending {
 // Where a replay goes on after a window of a file of so many bytes.
 fn went_by(p: Playing, t: Through, all: usize, window: &[u8], last: bool) -> Went
     requires { ⌜ (4 * p .base + length (now window) ≤ all) × (p .playback .place ≤ 13) × (last ≡ false → 65540 ≤ length (now window)) × ThroughIn (now window) last (p .playback) t ⌝ }
-    ensures { λ r. ⌜ Gone all (p .base) r ⌝ }
+    ensures { λ r. ⌜ Gone all (p .base) r × SameReplay p t r ⌝ }
 {
     let before = p.playback;
     let shown = p.progress;
@@ -207,7 +212,7 @@ fn by_window(
     form: Form,
 ) -> Went
     requires { ⌜ (4 * p .base + length (now window) ≤ all) × (p .playback .place ≤ 13) × (last ≡ false → 65540 ≤ length (now window)) ⌝ }
-    ensures { λ r. ⌜ Gone all (p .base) r ⌝ }
+    ensures { λ r. ⌜ Gone all (p .base) r × StepsTo form (now (window .entry)) last (p .base) (moment (p .playback) (now (fs .entry)) (now (us .entry)) (now (samples .entry))) r (now (fs .exit)) (now (us .exit)) (now (samples .exit)) ⌝ }
 {
     let w = p.playback;
     let t = write_through(w, fs, us, window, last, samples, text, form);

@@ -34,7 +34,7 @@ use Rattle.playback_windows.proofs.WindowedReplay.{wrote-stands, IsWrit
 
 -- ---- chains one behind the other
 
-steps-behind : {form : Form} {whole : List ℕ} {m n last : Moment} {printed more : List ℕ} → StepsBy form whole m printed n → StepsBy form whole n more last
+pub steps-behind : {form : Form} {whole : List ℕ} {m n last : Moment} {printed more : List ℕ} → StepsBy form whole m printed n → StepsBy form whole n more last
     → StepsBy form whole m (printed ++ more) last
 steps-behind start others = others
 steps-behind {more = more} (on {text′ = text′} {printed = printed} {v = v} w behind steps) others = rw (append-assoc (take (v .bytes) text′) printed more) (on w behind (steps-behind steps others))

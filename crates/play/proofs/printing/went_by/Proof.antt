@@ -1,5 +1,6 @@
 -- `play::printing::went_by` meets its contract. Assumes nothing.
 use native.Mathlib.Omega.{arith}
+use Rattle.playback_windows.proofs.Moving.{moved-on-in-the-tape}
 use Rattle.play.proofs.Windows.{window-goes-further}
 use borrow.Author.Needs.{needs}
 use Rattle.play.proofs.printing.went_by.Statement.{statement}
@@ -56,7 +57,7 @@ returns-5 c =
     let s = c .before .before .before .before .before .before .before .before .before .before in
     let more = c .before .before .before .if1 .left in
     let on = window-goes-further (s .args .window .now) (s .args .all) (s .args .p .base) (s .args .last) (s .args .p .playback) (s .args .t) (s .pre .0) (s .pre .1) (s .pre .2 more) more (c .before .before .before .before .enum-told4 .given .1) (s .pre .3) in
-    (on .0, on .1, rw (c .moved-on .ensures) (on .2))
+    ((on .0, on .1, rw (c .moved-on .ensures) (on .2)), rw (c .moved-on .ensures) (moved-on-in-the-tape (s .args .p .base) (s .args .t .playback .place) (s .args .t .playback) (omega arith)))
 
 pub went-by-spec : {M : Type 1} → statement M
 went-by-spec =

@@ -1,6 +1,6 @@
 -- `play::printing::write_pieces` meets its contract. Assumes nothing.
 use Rattle.play.specs.declared.printing.Reached.the-variants as Reached
-use Rattle.play.proofs.Windows.{pieces-through, pieces-leave-fewer}
+use Rattle.play.proofs.Windows.{pieces-through, pieces-leave-fewer, pieces-step-on}
 use borrow.Author.Needs.{needs}
 use Rattle.play.proofs.printing.write_pieces.Statement.{statement}
 use Rattle.play.proofs.printing.write_pieces.Tie as tie
@@ -26,7 +26,7 @@ same-length-4 c = search needs
 returns : tie.Need-returns
 returns c =
     let pieces = c .before .before .before .before .before .before .before .before .before .before .before .before .pieces-in .ensures in
-    (pieces-through pieces Reached.Unwritten tt, tt)
+    (pieces-step-on pieces, (pieces-through pieces Reached.Unwritten tt, tt))
 
 reached-by-requires : tie.Need-reached-by-requires
 reached-by-requires c κs = search needs
@@ -46,7 +46,7 @@ same-length-8 c = search needs
 returns-2 : tie.Need-returns-2
 returns-2 c =
     let pieces = c .before .before .before .before .before .before .before .before .before .before .before .before .before .pieces-in .ensures in
-    (pieces-through pieces (c .reached-by .result) (c .reached-by .ensures), pieces-leave-fewer pieces (c .reached-by .result) (c .reached-by .ensures))
+    (pieces-step-on pieces, (pieces-through pieces (c .reached-by .result) (c .reached-by .ensures), pieces-leave-fewer pieces (c .reached-by .result) (c .reached-by .ensures)))
 
 pub write-pieces-spec : {M : Type 1} → statement M
 write-pieces-spec =
