@@ -26,21 +26,26 @@ measured() {
   python3 -B "$here/measured.py" "$@"
 }
 
+# The less of two numbers, or the one that there is.
+less() {
+  awk -v a="$1" -v b="${2:-$1}" 'BEGIN { print a < b ? a : b }'
+}
+
 echo "$minutes minutes, $(stat -c %s "$tape") bytes"
 for form in --summary ''; do
   best=('' '')
   for _ in 1 2 3; do
     i=0
     for of in "$work/hours" "$PLAY"; do
-      # shellcheck disable=SC2086
-      read -r digest seconds memory <<< "$(measured "$of" $form "$tape")"
+      read -r digest seconds memory <<< "$(measured "$of" ${form:+"$form"} "$tape")"
       digests[i]=$digest
       memories[i]=$memory
-      [ -n "${best[i]}" ] && [ "$(echo "${best[i]} <= $seconds" | bc)" = 1 ] || best[i]=$seconds
+      best[i]=$(less "$seconds" "${best[i]}")
       i=$((i + 1))
     done
     [ "${digests[0]}" = "${digests[1]}" ] || { echo "DIFFERS: ${form:-whole lines}"; exit 1; }
   done
   echo "${form:-whole lines}: equal, ${digests[0]}"
-  echo "  original ${best[0]} s, ${memories[0]} kB; play ${best[1]} s, ${memories[1]} kB; ratio $(echo "scale=2; ${best[1]} / ${best[0]}" | bc)"
+  ratio=$(awk -v a="${best[1]}" -v b="${best[0]}" 'BEGIN { printf "%.2f", a / b }')
+  echo "  original ${best[0]} s, ${memories[0]} kB; play ${best[1]} s, ${memories[1]} kB; ratio $ratio"
 done

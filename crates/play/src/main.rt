@@ -1,8 +1,8 @@
 // Replays the tape in a file of any length, at every setup that document 01 allows, and prints what was heard.
 //   play [--summary] FILE
 // The file is read twice, by windows: its tape is checked first, then it is replayed. What came of it stands on descriptor 3
-// too, where that is open, as one word: over, refused or failed. The areas take 139 MB of the stack; a tape or setup
-// that is refused before it needs them takes half a megabyte.
+// too, where that is open, as one word: over, refused or failed. The areas take 139 MB of the stack; a tape that is
+// refused takes half a megabyte.
 mod printing;
 mod progress;
 mod saying;
