@@ -39,3 +39,11 @@ pub mod Decimal
 pub mod TapeWalk
 pub mod ReplaySteps
 pub mod SummarySteps
+-- facts of the definitions that are computed
+pub mod Computes
+pub mod Sessions
+pub mod Values
+pub mod Asked
+pub mod HeldStates
+pub mod Printed
+pub mod Summarised

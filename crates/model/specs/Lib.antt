@@ -5,7 +5,7 @@
 -- `cond b x y` is x where b is true, else y. `leb m n`, `ltb m n` and `eqb m n` ask m ≤ n, m < n and m = n. `&&` is and, `||` is or.
 -- `[]` is the empty list, `x ∷ xs` the list xs with x in front, `xs ++ ys` one list behind the other; `take`, `drop`, `length` as usual.
 -- `none` is what is absent, `some x` what is there. `let x = e in f` names e in f. `λ x. e` is the function of x that gives e.
--- `≡` says that both sides are equal; `refl` in the facts below says that computing both sides shows it. `n - m` is 0 where m is larger.
+-- `≡` says that both sides are equal; `refl` in the facts of proofs/ (Sessions, Values, Asked, HeldStates, Printed, Summarised) says that computing both sides shows it. `n - m` is 0 where m is larger.
 -- `abbrev` and `unfoldable` tell the prover when it may look into a definition; `pub` shows it to other files. Neither changes what it means.
 -- `+f`, `-f`, `*f`, `/f` are the steps on 32-bit floats, each rounded once. A comment over a definition says which rule it is.
 pub mod Bytes
@@ -27,12 +27,4 @@ pub mod Tape
 pub mod Replay
 pub mod Summary
 pub mod WholeList
--- facts that are computed
-pub mod Computes
 pub mod Text
-pub mod Sessions
-pub mod Values
-pub mod Asked
-pub mod HeldStates
-pub mod Printed
-pub mod Summarised

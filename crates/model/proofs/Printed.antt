@@ -7,7 +7,7 @@ use Rattle.model.specs.Framing.{Side, A, B}
 use Rattle.model.specs.Receiver.{Call, datagram, play, set, probe, one_way}
 use Rattle.model.specs.Tape.{Tape, Written, written, too_large, write}
 use Rattle.model.specs.Replay.{replay}
-use Rattle.model.specs.Computes.{computes}
+use Rattle.model.proofs.Computes.{computes}
 
 -- ---- calls
 

@@ -7,10 +7,10 @@ use Rattle.model.specs.Samples.{audio_payload}
 use Rattle.model.specs.Scaling.{Display, row_floor, row_top, adaptive_top, adaptive_range, display_after, shown_top, shown_range, smoothing_weight}
 use Rattle.model.specs.Picture.{db_to_u8, count_from}
 use Rattle.model.specs.Clock.{fresh_clock, step_toward, samples_ms, in_ms, record_depth, record_transmit, depth_ms, depth_peak_ms}
-use Rattle.model.specs.Receiver.{Call, datagram, probe, fresh_display}
+use Rattle.model.specs.Receiver.{Call, datagram, fresh_display}
 use Rattle.model.specs.Tape.{word_in}
 use Rattle.model.specs.Lines.{channel, line_of}
-use Rattle.model.specs.Computes.{computes}
+use Rattle.model.proofs.Computes.{computes}
 
 -- ---- floats
 

@@ -6,7 +6,7 @@ use Rattle.model.specs.Bytes.{big_endian_bytes}
 use Rattle.model.specs.Floats as Floats
 use Rattle.model.specs.Floats.{f0, f1, natf, from_bits}
 use Rattle.model.specs.Sizes.{Sizes}
-use Rattle.model.specs.Framing.{A, B}
+use Rattle.model.specs.Framing.{A}
 use Rattle.model.specs.Counts.{StreamCounts, counted}
 use Rattle.model.specs.JitterBuffer as Jitter
 use Rattle.model.specs.JitterBuffer.{Buffer, Counters, Played, fresh_buffer}
@@ -22,7 +22,7 @@ use Rattle.model.specs.Questions.{opened, set_up}
 use Rattle.model.specs.Step.{Event, Run, run}
 use Rattle.model.specs.Replay.{replay, replay_areas}
 use Rattle.model.specs.Text.{ascii, lines}
-use Rattle.model.specs.Computes.{computes}
+use Rattle.model.proofs.Computes.{computes}
 use Rattle.model.specs.Tape.{Tape, read_tape, written, read, write, bytes_of}
 
 -- ---- the jitter buffer: samples are numbers here, and the filler is 0

@@ -4,7 +4,7 @@ use Rattle.model.specs.Text.{ascii, lines}
 use Rattle.model.specs.Tape.{bytes_of}
 use Rattle.model.specs.Replay.{replay_areas}
 use Rattle.model.specs.Summary.{play_summary, row_summary, answer_summary, event_summaries, session_summary, summary_lines, summary_over}
-use Rattle.model.specs.Computes.{computes}
+use Rattle.model.proofs.Computes.{computes}
 
 -- packet 2, target 2, max 4, so many bins, a picture of one place, and estimates of 0
 setup_words : ℕ → List ℕ

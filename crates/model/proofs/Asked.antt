@@ -7,8 +7,7 @@ use Rattle.model.specs.Clock.{DepthCounts}
 use Rattle.model.specs.Receiver.{Estimates, Settings, Setup, Call, datagram, play, reset, set, probe, depth, transmit_depth, State, Lent, Answer, refused, accepted, played, row, fresh}
 use Rattle.model.specs.Questions.{Opened, not_opened, opened, set_up}
 use Rattle.model.specs.Step.{step}
-use Rattle.model.specs.Lines.{clock}
-use Rattle.model.specs.Computes.{computes}
+use Rattle.model.proofs.Computes.{computes}
 
 -- ---- a receiver to ask
 

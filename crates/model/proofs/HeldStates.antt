@@ -9,7 +9,7 @@ use Rattle.model.specs.Row.{Row}
 use Rattle.model.specs.Clock.{Timing, Clock, fresh_clock}
 use Rattle.model.specs.Receiver.{Estimates, Channel, State, fresh_channel}
 use Rattle.model.specs.Questions.{held}
-use Rattle.model.specs.Computes.{computes}
+use Rattle.model.proofs.Computes.{computes}
 
 -- ---- states that differ in one part
 
