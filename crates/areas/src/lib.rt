@@ -1,4 +1,6 @@
 // Moves, copies and fills inside lent slices, of f32 and of u32.
+#![tactic(auto)]
+
 ghost use Rattle.std.specs.Prelude.{◌≡◌, ◌+◌, ◌≤◌, ◌<◌, length, replicate};
 ghost use Rattle.model.specs.Bytes.{part, placed};
 ghost use Rattle.areas.specs.Parts.{moved};

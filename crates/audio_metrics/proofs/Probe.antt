@@ -1,11 +1,11 @@
 -- What a probe does by the sign of its round trip, and the ranges that a held clock and question 9 give. Assumes nothing.
-use Rattle.std.proofs.Common.{◌≡◌, ℕ, zero, suc, ◌^◌, ◌<◌, ◌≤◌, Bool, true, false, ◌&&◌, T, ltb, leb, ℤ, pos, negsuc, nat_abs, ◌≤ℤ◌, ◌<ℤ◌, refl, ap, true≢false, arith, ltb-true, lt-ltb, leb-false, leb-true}
+use Rattle.std.proofs.Common.{◌≡◌, zero, suc, ◌^◌, ◌<◌, true, false, T, leb, ℤ, pos, negsuc, nat_abs, refl, true≢false, arith, ltb-true, lt-ltb, leb-false, leb-true}
 use mathlib.Core.Bool.{false≢true}
 use mathlib.Core.Option.{Option, none, some}
 use lib.Signed.{mag, le_z, lt_z, non_neg}
 use Rattle.model.specs.Sizes.{between}
-use Rattle.model.specs.Clock.{Timing, Clock, timing_after, probed, record_probe}
-use Rattle.model.specs.Questions.{offset_allowed, timing_held, clock_held, one_way_held, probe_allowed, clock_bound}
+use Rattle.model.specs.Clock.{Timing, Clock, timing_after, probed}
+use Rattle.model.specs.Questions.{offset_allowed, timing_held, clock_held, probe_allowed, clock_bound}
 use Rattle.model.proofs.BoolLaws.{first_of_both, second_of_both}
 use Rattle.model.proofs.SizeLaws.{between_facts}
 use Rattle.audio_metrics.specs.Requires.{TimingFits}

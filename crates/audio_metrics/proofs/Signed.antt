@@ -1,5 +1,5 @@
 -- Ranges of signed sums, differences and quotients, by their magnitudes; and a step between two numbers stays in their range. Assumes nothing.
-use Rattle.std.proofs.Common.{◌≡◌, ℕ, zero, suc, ◌+◌, ◌-◌, ◌*◌, ◌/◌, ◌^◌, ◌<◌, ◌≤◌, Bool, true, false, cond, ltb, leb, ℤ, pos, negsuc, ◌+ℤ◌, ◌-ℤ◌, neg_ℤ, nat_abs, sym, refl, ap, ◌∙◌, mul-le-mul_right, div-le_self, arith, w64, SFits, to_z, of_z, ltb-false, ltb-true, lt-ltb, le-leb, leb-true}
+use Rattle.std.proofs.Common.{◌≡◌, ℕ, zero, suc, ◌+◌, ◌-◌, ◌*◌, ◌/◌, ◌^◌, ◌<◌, ◌≤◌, Bool, true, false, ltb, ℤ, pos, negsuc, ◌+ℤ◌, ◌-ℤ◌, neg_ℤ, nat_abs, refl, ap, ◌∙◌, mul-le-mul_right, div-le_self, arith, w64, SFits, to_z, of_z, ltb-false, ltb-true, lt-ltb, le-leb, leb-true}
 use mathlib.Core.Bool.{false≢true}
 use native.Mathlib.Nat.{mul-div-le}
 use lib.IntN.{sub_ℕ}
@@ -7,7 +7,7 @@ use lib.Signed.{mag, le_z, lt_z, quot_z}
 use mir.Val.{sel}
 use mir.ValLaws.{to_z-of_z}
 use Rattle.model.specs.Clock.{step_toward}
-use Rattle.model.proofs.BoolLaws.{by_test, cond_keeps}
+use Rattle.model.proofs.BoolLaws.{cond_keeps}
 use Rattle.model.proofs.StepLaws.{step_above, step_below}
 
 -- ---- magnitudes

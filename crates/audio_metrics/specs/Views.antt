@@ -4,14 +4,10 @@ use Rattle.std.specs.Prelude.{ℤ, Float}
 use Rattle.model.specs.Clock as Clock
 use Rattle.audio_metrics.specs.declared.ClockTiming.{ClockTiming}
 use Rattle.audio_metrics.specs.declared.Timing.{Timing}
-use Rattle.audio_metrics.specs.declared.Timing.TheVariants as Timing
 use Rattle.audio_metrics.specs.declared.OneWay.{OneWay}
-use Rattle.audio_metrics.specs.declared.OneWay.TheVariants as OneWay
 use Rattle.audio_metrics.specs.declared.JitterDepth.{JitterDepth}
 use Rattle.audio_metrics.specs.declared.Jitter.{Jitter}
-use Rattle.audio_metrics.specs.declared.Jitter.TheVariants as Jitter
 use Rattle.audio_metrics.specs.declared.Reading.{Reading}
-use Rattle.audio_metrics.specs.declared.Reading.TheVariants as Reading
 use Rattle.audio_metrics.specs.declared.AudioMetrics.{AudioMetrics}
 
 abbrev pub known_of : ClockTiming → Clock.Timing

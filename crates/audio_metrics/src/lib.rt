@@ -1,6 +1,8 @@
 // Clock offset, round trip, one-way delay and buffer depths, as rigflow-client/src/audio_metrics.rs keeps them.
 // The state goes in by value and comes back. A number that is not there yet is a case of its own.
 // The functions take what the receiver's questions let through: a held clock, and numbers in the range of question 9.
+#![tactic(auto)]
+
 ghost use Rattle.std.specs.Prelude.{◌≡◌, ◌^◌, ◌<◌, ◌≤◌, true, unsigned_abs};
 ghost use Rattle.std.proofs.Math.Option.{some};
 ghost use Rattle.model.specs.Questions.{clock_bound, offset_allowed, timing_held, one_way_held, clock_held, probe_allowed, depth_allowed};
@@ -24,39 +26,39 @@ const JITTER_PEAK_DECAY: f32 = 0.999;
 const TX_RING_PEAK_DECAY: f32 = 0.99;
 
 // Server − client clock offset, the last round trip, and the running least that gates clean offsets.
-#[derive(Drop)]
+#[derive(Clone, Copy)]
 pub struct ClockTiming {
     pub offset_ns: i64,
     pub rtt_ns: u64,
     pub min_rtt_ns: u64,
 }
 
-#[derive(Drop)]
+#[derive(Clone, Copy)]
 pub enum Timing {
     Unknown,
     Known(ClockTiming),
 }
 
-#[derive(Drop)]
+#[derive(Clone, Copy)]
 pub enum OneWay {
     Unknown,
     Known(i64),
 }
 
 // Depth of the receive buffer in ms: a slow average and a decaying recent peak.
-#[derive(Drop)]
+#[derive(Clone, Copy)]
 pub struct JitterDepth {
     pub jitter_avg_ms: f32,
     pub jitter_peak_ms: f32,
 }
 
-#[derive(Drop)]
+#[derive(Clone, Copy)]
 pub enum Jitter {
     Unknown,
     Known(JitterDepth),
 }
 
-#[derive(Drop)]
+#[derive(Clone, Copy)]
 pub struct AudioMetrics {
     pub timing: Timing,
     pub one_way: OneWay,
@@ -258,7 +260,7 @@ fn one_way_could_be_held(timing: Timing, one_way: OneWay) -> bool
 }
 
 // A reading that is not there before its first number.
-#[derive(Drop)]
+#[derive(Clone, Copy)]
 pub enum Reading {
     Unknown,
     Ms(f32),

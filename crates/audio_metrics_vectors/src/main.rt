@@ -1,6 +1,8 @@
 // Holds the crate `audio_metrics` against vectors from outside. The probe sessions of the document and its ranges; all
 // other expected values are those of rigflow's audio_metrics.rs (rustc 1.95, x86-64) for the same calls.
 // A vector's line says what was found, and whether it is what was expected.
+#![tactic(auto)]
+
 use audio_metrics_words::exports::{
     audio_metrics_clock_offset_ms, audio_metrics_conceals, audio_metrics_could_be_held,
     audio_metrics_jitter_ms, audio_metrics_jitter_peak_ms, audio_metrics_late, audio_metrics_new,
@@ -8,10 +10,12 @@ use audio_metrics_words::exports::{
     audio_metrics_record_audio_one_way, audio_metrics_record_probe, audio_metrics_resyncs,
     audio_metrics_rtt_ms, audio_metrics_rx_one_way_ms, audio_metrics_tx_ring_peak_ms,
 };
-use libc::STDOUT_FILENO;
 use std::num::{wrapping_add_u64, wrapping_sub_u64};
 
-#[derive(Drop)]
+// A file descriptor.
+const STDOUT_FILENO: i32 = 1;
+
+#[derive(Clone, Copy)]
 struct Tally {
     seen: u64,
     different: u64,

@@ -1,6 +1,8 @@
 // The clock's state in 14 words of 64 bits, for callers in other languages: flag, offset, round trip and least; flag and
 // one-way delay; flag, average and peak of the depth; four counts; the transmit ring's peak.
 // A flag of 0 says that the numbers after it are not there yet. A float stands by its bit pattern.
+#![tactic(auto)]
+
 pub mod exports;
 
 ghost use Rattle.std.specs.Prelude.{◌≡◌};

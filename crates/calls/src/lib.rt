@@ -1,14 +1,16 @@
 // What a setup or a call carries, by value: the channel it is for, its sizes, settings, estimates and counts.
 
 // The two channels.
-#[derive(Drop)]
+#![tactic(auto)]
+
+#[derive(Clone, Copy)]
 pub enum Side {
     A,
     B,
 }
 
 // The six sizes of a receiver.
-#[derive(Drop)]
+#[derive(Clone, Copy)]
 pub struct Sizes {
     pub packet: usize,
     pub target: usize,
@@ -19,7 +21,7 @@ pub struct Sizes {
 }
 
 // A channel's estimates at setup, as bit patterns.
-#[derive(Drop)]
+#[derive(Clone, Copy)]
 pub struct Estimates {
     pub top: u32,
     pub floor: u32,
@@ -27,7 +29,7 @@ pub struct Estimates {
 }
 
 // A channel's settings as a set call gives them: the floats are bit patterns.
-#[derive(Drop)]
+#[derive(Clone, Copy)]
 pub struct Settings {
     pub adaptive: bool,
     pub top: u32,
@@ -37,7 +39,7 @@ pub struct Settings {
 }
 
 // The counts that a depth call gives.
-#[derive(Drop)]
+#[derive(Clone, Copy)]
 pub struct DepthCounts {
     pub conceals: u64,
     pub late: u64,

@@ -1,6 +1,6 @@
 -- Question 3 of a channel, asked of its numbers and its waiting sequences, is the model's question of the channel that they and the areas hold. Assumes nothing.
 use mathlib.Core.Path.{◌≡◌, refl, sym, ◌∙◌, ap}
-use mathlib.Core.Bool.{Bool, true, false, ◌&&◌, and-eq-true_iff, false≢true}
+use mathlib.Core.Bool.{Bool, true, false, and-eq-true_iff, false≢true}
 use mathlib.Core.List.{List}
 use Prim.Native.Nat.{ℕ, ◌+◌, ◌-◌, ◌*◌, ◌≤◌, ◌<◌}
 use native.Mathlib.Omega.{arith}
@@ -8,25 +8,23 @@ use lib.ListN.{length, take, drop, length-take, length-drop, replicate, length-r
 use lib.Seq.{take-take, length-take-le}
 use lib.Dec.{leb, ltb}
 use lib.Ieee.{Float}
-use borrow.Author.Tests.{leb-true, leb-false, ltb-true, lt-leb, eq-eqb}
+use borrow.Author.Tests.{leb-true, leb-false, ltb-true, eq-eqb}
 use Rattle.model.specs.Bytes.{part}
 use Rattle.model.specs.Floats.{f0}
 use Rattle.model.specs.Sizes.{sizes_allowed, most_waiting, float_section, word_section}
-use Rattle.model.specs.JitterBuffer.{Buffer}
-use Rattle.model.specs.Questions.{most_calls, most_added, sequences, strictly_rising, start_held, counters_held, buffer_held, row_held, channel_held}
+use Rattle.model.specs.Questions.{most_calls, sequences, strictly_rising, buffer_held, channel_held}
 use Rattle.model.proofs.BoolLaws.{by_test}
 use Rattle.model.proofs.SizeLaws.{allowed}
 use Rattle.calls.specs.declared.Sizes.{Sizes}
 use Rattle.calls.specs.Views.{sizes_of}
-use Rattle.sizes.specs.View.{queue_at}
 use Rattle.jitter_buffer.specs.declared.JitterBuffer.{JitterBuffer}
 use Rattle.jitter_buffer.specs.View.{view_of}
 use Rattle.jitter_asking.specs.Promises.{HeldAsked, HeldTold}
 use Rattle.jitter_buffer.proofs.Places.{packets_length}
-use Rattle.udp_packets.specs.Packets.{screen_asked, channel_of}
+use Rattle.udp_packets.specs.Packets.{screen_asked}
 use Rattle.udp_packets.proofs.Asked.{screen_asked_is}
 use Rattle.channel.specs.declared.Channel.{Channel}
-use Rattle.channel.specs.View.{row_at, channel_in}
+use Rattle.channel.specs.View.{row_at}
 use Rattle.channel.specs.Promises.{ChannelAsked}
 use Rattle.channel.proofs.Sections.{buffer_reads, float_section_is, word_section_is}
 

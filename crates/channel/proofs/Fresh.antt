@@ -1,8 +1,8 @@
 -- A fresh buffer and a fresh screen over a picture of zeros are the model's fresh channel. Assumes nothing.
-use mathlib.Core.Path.{◌≡◌, refl, ap}
+use mathlib.Core.Path.{◌≡◌}
 use mathlib.Core.List.{List}
 use Prim.Native.Nat.{ℕ, ◌*◌}
-use lib.ListN.{drop, replicate}
+use lib.ListN.{replicate}
 use lib.Ieee.{Float}
 use Rattle.model.specs.Bytes.{part}
 use Rattle.model.specs.Floats.{from_bits}

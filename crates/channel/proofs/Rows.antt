@@ -1,8 +1,8 @@
 -- A waterfall payload of a channel: its rows are lent from the row on to the end of the work section, its picture by itself, and both are put back. Assumes nothing.
 use mathlib.Core.Path.{◌≡◌, refl, sym, ◌∙◌, ap}
 use mathlib.Core.Bool.{true}
-use mathlib.Core.List.{List, [], ◌++◌, append-nil}
-use Prim.Native.Nat.{ℕ, ◌+◌, ◌-◌, ◌*◌, ◌≤◌, ◌<◌}
+use mathlib.Core.List.{List, ◌++◌, append-nil}
+use Prim.Native.Nat.{ℕ, ◌+◌, ◌-◌, ◌*◌, ◌≤◌}
 use native.Mathlib.Omega.{arith}
 use lib.ListN.{length, take, drop, length-take, length-drop}
 use lib.Seq.{take_at, drop_at, take_all, drop-length, drop-drop, length-take-le}
@@ -10,7 +10,6 @@ use lib.Ieee.{Float}
 use borrow.Rule.Slice.PartMut.{put_mid, post_of, take_put, drop_put, same_len_mid}
 use Rattle.model.specs.Bytes.{part}
 use Rattle.model.specs.Sizes.{most_waiting, float_section, word_section}
-use Rattle.model.specs.JitterBuffer.{Buffer}
 use Rattle.model.specs.Receiver as Receiver
 use Rattle.model.specs.Questions.{most_calls, most_added, buffer_held, channel_held}
 use Rattle.model.specs.Step.{waterfall_into}
@@ -18,17 +17,14 @@ use Rattle.model.proofs.BoolLaws.{first_of_both, second_of_both}
 use Rattle.model.proofs.SizeLaws.{allowed}
 use Rattle.calls.specs.declared.Sizes.{Sizes}
 use Rattle.calls.specs.Views.{sizes_of}
-use Rattle.sizes.specs.View.{queue_at}
 use Rattle.sizes.proofs.Bounds.{picture_bound}
 use Rattle.jitter_buffer.specs.View.{view_of}
 use Rattle.jitter_buffer.proofs.Places.{queue_low}
-use Rattle.udp_packets.specs.declared.Screen.{Screen}
 use Rattle.udp_packets.specs.declared.Handled.{Handled}
 use Rattle.reassembler.specs.Rows.{completed_of}
 use Rattle.udp_packets.specs.Packets.{screen_asked, channel_of, ScreenReady, WaterfallHandled}
 use Rattle.udp_packets.proofs.Asked.{screen_asked_is}
 use Rattle.channel.specs.declared.Channel.{Channel}
-use Rattle.channel.specs.declared.Shown.{Shown}
 use Rattle.channel.specs.View.{row_at, channel_in}
 use Rattle.channel.specs.Promises.{Ready, RowReady, RowTaken}
 use Rattle.channel.proofs.Sections.{buffer_reads, float_section_is, word_section_is}

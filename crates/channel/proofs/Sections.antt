@@ -5,7 +5,7 @@ use mathlib.Core.List.{List}
 use Prim.Native.Nat.{ℕ, ◌+◌, ◌-◌, ◌*◌, ◌≤◌, ◌<◌}
 use native.Mathlib.Nat.{zero-add}
 use native.Mathlib.Omega.{arith}
-use lib.ListN.{length, take, drop, get_or}
+use lib.ListN.{take, drop, get_or}
 use lib.Seq.{get_or-take}
 use lib.Ieee.{Float}
 use Rattle.model.specs.Bytes.{part}
@@ -18,7 +18,7 @@ use Rattle.calls.specs.declared.Sizes.{Sizes}
 use Rattle.calls.specs.Views.{sizes_of}
 use Rattle.sizes.specs.View.{queue_at}
 use Rattle.jitter_buffer.specs.declared.JitterBuffer.{JitterBuffer}
-use Rattle.jitter_buffer.specs.View.{packets_from, view_of}
+use Rattle.jitter_buffer.specs.View.{view_of}
 use Rattle.jitter_buffer.proofs.Places.{place_ends, SamePacket, same_packets}
 use Rattle.udp_packets.specs.declared.Screen.{Screen}
 use Rattle.udp_packets.specs.Packets.{channel_of, screen_asked}

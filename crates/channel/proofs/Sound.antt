@@ -1,6 +1,6 @@
 -- A call on a channel's sound: the jitter buffer gets the front of the channel's sections, and what it left is put back in front of the rest. Assumes nothing.
-use mathlib.Core.Path.{◌≡◌, refl, sym, ◌∙◌, ap}
-use mathlib.Core.Bool.{true, and-eq-true_iff}
+use mathlib.Core.Path.{◌≡◌, sym, ◌∙◌, ap}
+use mathlib.Core.Bool.{true}
 use mathlib.Core.Option.{none}
 use mathlib.Core.List.{List, ◌++◌}
 use Prim.Native.Nat.{ℕ, ◌+◌, ◌-◌, ◌*◌, ◌^◌, ◌≤◌, ◌<◌}
@@ -8,9 +8,8 @@ use native.Mathlib.Omega.{arith}
 use lib.ListN.{length, take, drop, length-append, length-drop, length-take}
 use lib.Seq.{take_at, drop_at, take_all, length-take-le}
 use lib.Ieee.{Float}
-use Rattle.model.specs.Bytes.{part}
 use Rattle.model.specs.Floats.{f0}
-use Rattle.model.specs.Sizes.{sizes_allowed, most_waiting, float_section, word_section}
+use Rattle.model.specs.Sizes.{most_waiting}
 use Rattle.model.specs.JitterBuffer.{Buffer, Played, play}
 use Rattle.model.specs.Receiver as Receiver
 use Rattle.model.specs.Receiver.{row, played}
@@ -20,11 +19,10 @@ use Rattle.model.proofs.BoolLaws.{first_of_both}
 use Rattle.model.proofs.SizeLaws.{allowed}
 use Rattle.model.proofs.BufferKept.{Kept}
 use Rattle.model.proofs.Play.{play_keeps}
-use Rattle.model.proofs.HeldKept.{KeptWithin, RowShaped, ChannelShaped, channel_kept}
+use Rattle.model.proofs.HeldKept.{RowShaped, ChannelShaped, channel_kept}
 use Rattle.model.proofs.ChannelKept.{ChannelKept, audio_acts}
 use Rattle.calls.specs.declared.Sizes.{Sizes}
 use Rattle.calls.specs.Views.{sizes_of}
-use Rattle.sizes.specs.View.{queue_at}
 use Rattle.areas.proofs.Placed.{part_length}
 use Rattle.jitter_buffer.specs.declared.JitterBuffer.{JitterBuffer}
 use Rattle.jitter_pop.specs.declared.Popped.{Popped}
@@ -32,7 +30,7 @@ use Rattle.jitter_buffer.specs.View.{view_of}
 use Rattle.jitter_buffer.specs.Promises as Jitter
 use Rattle.jitter_buffer.specs.Promises.{AsLong}
 use Rattle.jitter_pop.specs.Promises.{PopDone}
-use Rattle.jitter_buffer.proofs.HeldKept.{WordsFit, view_shaped, view_kept}
+use Rattle.jitter_buffer.proofs.HeldKept.{WordsFit, view_shaped}
 use Rattle.jitter_buffer.proofs.Places.{packets_length}
 use Rattle.udp_packets.specs.declared.Screen.{Screen}
 use Rattle.reassembler.specs.declared.WaterfallReassembler.{WaterfallReassembler}

@@ -1,5 +1,7 @@
 // One channel over its sections of the two lent areas: what waits and is queued, and what it shows. Both slices begin
 // where the channel's sections begin and may go on behind them.
+#![tactic(auto)]
+
 ghost use Rattle.std.specs.Prelude.{◌≡◌, List, ℕ, ◌≤◌, length, Float};
 ghost use Rattle.calls.specs.declared.Sizes.{Sizes};
 ghost use Rattle.channel.specs.Promises.{FreshChannel, Asked, ChannelAsked, Ready, RowReady, AudioTaken, ChannelPlayed, ResetDone, SettingsTaken, RowTaken};
@@ -10,21 +12,21 @@ use reassembler::CompletedRow;
 use udp::Display;
 use udp_packets::Screen;
 
-#[derive(Drop)]
+#[derive(Clone, Copy)]
 pub struct Channel {
     pub jitter: JitterBuffer,
     pub screen: Screen,
 }
 
 // What a waterfall payload leaves, and the bins of the row that it completed, if it did.
-#[derive(Drop)]
+#[derive(Clone, Copy)]
 pub struct Shown {
     pub channel: Channel,
     pub completed: CompletedRow,
 }
 
 // What a play leaves and answers.
-#[derive(Drop)]
+#[derive(Clone, Copy)]
 pub struct Played {
     pub channel: Channel,
     pub taken: usize,

@@ -3,7 +3,7 @@
 use Rattle.std.proofs.Common.{◌≡◌, ℕ, zero, suc, ◌+◌, ◌-◌, ◌*◌, ◌/◌, ◌^◌, ◌<◌, ◌≤◌, min, Bool, true, false, cond, T, ltb, ℤ, pos, sym, refl, ap, ◌∙◌, subst, true≢false, lt_of_lt_of_le, le-add_right, zero-lt-suc, mul-pos, zero-mul, arith, lit≤, le→leb, ltb-false, lt-ltb}
 use mathlib.Core.Bool.{false≢true}
 use native.Mathlib.Nat.{div-eq_of_lt}
-use lib.Ieee.{Float, nan, inf, fin, Format, binary32, prec, emax, low, up, down, odd, units, round, lt, fits, of_int, to_unsigned, in_float}
+use lib.Ieee.{Float, nan, inf, fin, Format, binary32, prec, emax, low, up, down, odd, units, round, lt, fits, to_unsigned, in_float}
 use lib.Ieee.Fits.{up_pos, down_pos, round_is}
 use lib.Ieee.Back.{unsigned_back}
 use Rattle.model.specs.Floats.{f0, natf, round_half_away}

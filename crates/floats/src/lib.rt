@@ -1,5 +1,7 @@
 // The float helpers of the receiver, at f32. Each takes every float: a NaN, an infinity, -0 and a
 // subnormal are answered as the definition that the contract names answers them.
+#![tactic(auto)]
+
 mod exports;
 
 ghost use Rattle.std.specs.Prelude.{◌≡◌, ◌^◌, ◌<◌, ◌≤◌, min, false, T, pos};

@@ -1,9 +1,12 @@
 // Holds the crate `floats` against vectors from outside: the expected values are those of Rust
 // (rustc 1.95, x86-64) for the expression that a group names. A float stands by its bit pattern,
 // and a vector's line says what was found, and whether it is what was expected.
-use libc::STDOUT_FILENO;
+#![tactic(auto)]
 
-#[derive(Drop)]
+// A file descriptor.
+const STDOUT_FILENO: i32 = 1;
+
+#[derive(Clone, Copy)]
 struct Tally {
     seen: u64,
     different: u64,

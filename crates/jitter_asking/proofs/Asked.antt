@@ -13,7 +13,7 @@ use Rattle.model.specs.Sizes.{most_waiting}
 use Rattle.model.specs.JitterBuffer.{Counters}
 use Rattle.model.specs.Bytes.{all}
 use Rattle.model.specs.Questions.{most_calls, sequences, strictly_rising, start_held, counters_held, buffer_held}
-use Rattle.model.proofs.BoolLaws.{by_test, clash}
+use Rattle.model.proofs.BoolLaws.{by_test}
 use Rattle.calls.specs.declared.Sizes.{Sizes}
 use Rattle.calls.specs.Views.{sizes_of}
 use Rattle.sizes.specs.View.{queue_at}

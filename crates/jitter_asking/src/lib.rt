@@ -1,4 +1,6 @@
 // Question 3 for a channel's jitter buffer, and for a counter: whether a receiver could hold them.
+#![tactic(auto)]
+
 ghost use Rattle.std.specs.Prelude.{◌≡◌, ◌*◌, ◌≤◌, max, length, leb};
 ghost use Rattle.model.specs.Questions.{most_calls, strictly_rising};
 ghost use Rattle.jitter_buffer.specs.View.{counters_of};

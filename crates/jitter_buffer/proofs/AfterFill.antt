@@ -9,7 +9,6 @@ use Rattle.model.proofs.FillStep.{Loose, Flow}
 use Rattle.model.proofs.Fill.{fill_keeps, fill_flows}
 use Rattle.calls.specs.declared.Sizes.{Sizes}
 use Rattle.calls.specs.Views.{sizes_of}
-use Rattle.sizes.specs.View.{queue_at}
 use Rattle.jitter_buffer.specs.declared.JitterBuffer.{JitterBuffer}
 use Rattle.jitter_buffer.specs.View.{view_of}
 use Rattle.jitter_buffer.specs.Promises.{Lent, CanFill}

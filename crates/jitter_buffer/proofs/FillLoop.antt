@@ -1,5 +1,5 @@
 -- A fill is the fill of what a step leaves, until a step stops. Assumes nothing.
-use Rattle.std.proofs.Common.{◌≡◌, ℕ, zero, suc, ◌+◌, ◌≤◌, sym, refl, ◌∙◌, add-one}
+use Rattle.std.proofs.Common.{◌≡◌, ℕ, zero, suc, ◌≤◌, sym, refl, ◌∙◌, add-one}
 use Rattle.model.specs.Sizes.{Sizes}
 use Rattle.model.specs.JitterBuffer.{Buffer, Step, moved, concealed, stopped, step_due, after_step, unless_stopped, fill_steps, fill}
 use Rattle.model.proofs.FillStep.{Loose}

@@ -1,19 +1,17 @@
 -- What holds between the turns of a fill: the rest of the fill makes of the view what the whole fill makes of the view at entry. Assumes nothing.
-use Rattle.std.proofs.Common.{◌≡◌, ℕ, ◌+◌, ◌-◌, ◌<◌, ◌≤◌, true, List, length, sym, refl, ap, ◌∙◌, arith}
-use native.Mathlib.Nat.{sub-zero}
+use Rattle.std.proofs.Common.{◌≡◌, ℕ, ◌+◌, ◌-◌, ◌<◌, ◌≤◌, true, List, length, sym, refl, ◌∙◌, arith}
 use lib.Ieee.{Float}
 use Rattle.model.specs.Floats.{f0}
 use Rattle.model.specs.Sizes.{sizes_allowed, most_waiting}
 use Rattle.model.specs.JitterBuffer.{Buffer, Step, moved, concealed, stopped, step_due, after_step, fill}
-use Rattle.model.proofs.SizeLaws.{Allowed, allowed}
+use Rattle.model.proofs.SizeLaws.{allowed}
 use Rattle.model.proofs.FillStep.{Loose, Flow, flow_none, flow_then, step_keeps, step_flows, Queued, moved_queues, concealed_queues}
 use Rattle.calls.specs.declared.Sizes.{Sizes}
 use Rattle.calls.specs.Views.{sizes_of}
-use Rattle.sizes.specs.View.{queue_at}
 use Rattle.jitter_buffer.specs.declared.JitterBuffer.{JitterBuffer}
-use Rattle.jitter_buffer.specs.declared.Turn.TheVariants.{More, Done}
+use Rattle.jitter_buffer.specs.declared.Turn.TheVariants.{More}
 use Rattle.jitter_buffer.specs.View.{view_from, view_of}
-use Rattle.jitter_buffer.specs.Promises.{Lent, CanConceal, Filling, TurnTaken, FillCounts, CanFill, Closing}
+use Rattle.jitter_buffer.specs.Promises.{Lent, Filling, TurnTaken, FillCounts, CanFill, Closing}
 use Rattle.jitter_buffer.proofs.FillLoop.{fill_goes_on, fill_stopped}
 use Rattle.jitter_buffer.proofs.FillView.{queue_length}
 use Rattle.jitter_buffer.proofs.Turns.{queue_below}

@@ -1,16 +1,14 @@
 -- What the code of a fill's steps makes of the view is what the model's steps make of it. Next waits only at the front, so what is taken is a prefix. Assumes nothing.
-use Rattle.std.proofs.Common.{◌≡◌, ℕ, zero, suc, ◌+◌, ◌-◌, ◌*◌, ◌<◌, ◌≤◌, Bool, true, false, cond, eqb, ltb, leb, List, [], ◌∷◌, ◌++◌, length, get_or, replicate, sym, refl, ap, ◌∙◌, mul-le-mul_right, add-mul, zero-add, add-one, arith, ltb-false, ltb-true, le-ltb, lt-ltb, eq-eqb, ne_eqb, eqb-true, le-leb}
-use mathlib.Core.Option.{Option, none, some}
+use Rattle.std.proofs.Common.{◌≡◌, ℕ, suc, ◌+◌, ◌-◌, ◌*◌, ◌<◌, ◌≤◌, true, false, eqb, ltb, List, [], ◌∷◌, ◌++◌, length, get_or, replicate, sym, refl, ap, ◌∙◌, mul-le-mul_right, add-mul, zero-add, add-one, arith, ltb-false, ltb-true, eq-eqb, le-leb}
 use native.Mathlib.Nat.{sub-zero}
 use lib.ListN.{length-replicate}
 use lib.Ieee.{Float, nan}
-use borrow.Author.Tests.{eqb-false, lt-leb}
+use borrow.Author.Tests.{lt-leb}
 use Rattle.model.specs.Bytes.{part, placed}
 use Rattle.model.specs.Floats.{f0}
-use Rattle.model.specs.Framing.{next_sequence}
 use Rattle.model.specs.Sizes.{most_waiting}
-use Rattle.model.specs.JitterBuffer.{Packet, Buffer, Counters, Step, moved, concealed, stopped, is_waiting, samples_at, without, earliest, with_next, step_due, after_step, resynced, count_concealed, count_resync}
-use Rattle.model.proofs.BoolLaws.{by_test, clash}
+use Rattle.model.specs.JitterBuffer.{Packet, moved, concealed, is_waiting, samples_at, without, earliest, with_next, step_due, after_step, resynced, count_concealed, count_resync}
+use Rattle.model.proofs.BoolLaws.{by_test}
 use Rattle.model.proofs.Waiting.{RisingFrom, waiting_not_below}
 use Rattle.model.proofs.FillStep.{Loose, lowest}
 use Rattle.areas.proofs.Placed.{part_length, part_part, part_before, part_behind, part_within, get_d_part, placed_within}
@@ -20,12 +18,10 @@ use Rattle.sizes.specs.View.{queue_at}
 use Rattle.jitter_buffer.specs.declared.JitterBuffer.{JitterBuffer}
 use Rattle.jitter_buffer.specs.declared.NextSequence.{NextSequence}
 use Rattle.jitter_buffer.specs.declared.NextSequence.TheVariants.{NotStarted, Next}
-use Rattle.jitter_buffer.specs.declared.FillStep.{FillStep}
-use Rattle.jitter_buffer.specs.declared.FillStep.TheVariants.{Moved, Concealed, Stopped}
 use Rattle.jitter_buffer.specs.View.{next_of, step_of, packets_from, view_from, view_of}
 use Rattle.jitter_buffer.specs.Fields.{moved_fields, concealed_fields, resynced_fields, closed_fields, next_step, fill_step_of}
 use Rattle.jitter_buffer.specs.Promises.{Lent}
-use Rattle.jitter_buffer.proofs.Places.{place_ends, places_end, packets_length, SamePacket, same_packets, part_grown}
+use Rattle.jitter_buffer.proofs.Places.{place_ends, places_end, same_packets, part_grown}
 
 -- ---- what a step does
 

@@ -1,9 +1,8 @@
 -- Waiting packets in their places: what a list of them depends on, and what a queue is after a packet more. Assumes nothing.
-use Rattle.std.proofs.Common.{◌≡◌, ℕ, zero, suc, ◌+◌, ◌-◌, ◌*◌, ◌<◌, ◌≤◌, true, List, [], ◌∷◌, ◌++◌, length, get_or, take, drop, sym, refl, ap, ◌∙◌, add-zero, add-suc, mul-le-mul_right, add-mul, suc-add, zero-add, arith, take_all, drop-drop, take-add}
+use Rattle.std.proofs.Common.{◌≡◌, ℕ, zero, suc, ◌+◌, ◌-◌, ◌*◌, ◌<◌, ◌≤◌, true, List, ◌++◌, length, get_or, drop, sym, refl, ap, ◌∙◌, add-zero, add-suc, mul-le-mul_right, add-mul, suc-add, zero-add, arith, take_all, drop-drop, take-add}
 use Rattle.model.specs.Bytes.{part, placed}
 use Rattle.model.specs.Sizes.{Sizes, sizes_allowed, most_waiting}
-use Rattle.model.specs.JitterBuffer.{Packet}
-use Rattle.areas.proofs.Placed.{part_before, part_within, part_length}
+use Rattle.areas.proofs.Placed.{part_before, part_within}
 use Rattle.sizes.specs.View.{queue_at}
 use Rattle.sizes.proofs.Bounds.{waiting_samples_bound}
 use Rattle.jitter_buffer.specs.View.{packets_from}

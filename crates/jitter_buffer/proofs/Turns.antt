@@ -1,9 +1,9 @@
 -- What each way through one turn of a fill leaves, as its contract has it. Assumes nothing.
-use Rattle.std.proofs.Common.{◌≡◌, ℕ, ◌+◌, ◌-◌, ◌*◌, ◌<◌, ◌≤◌, Bool, true, false, cond, eqb, ltb, List, length, get_or, drop, replicate, sym, refl, ap, ◌∙◌, arith, length-drop, length-take, ltb-true, eqb-true}
+use Rattle.std.proofs.Common.{◌≡◌, ℕ, ◌+◌, ◌*◌, ◌<◌, ◌≤◌, Bool, true, false, eqb, ltb, List, length, get_or, drop, replicate, sym, refl, ap, ◌∙◌, arith, length-drop, length-take, ltb-true, eqb-true}
 use lib.Ieee.{Float}
 use Rattle.model.specs.Bytes.{part, placed}
 use Rattle.model.specs.Floats.{f0}
-use Rattle.model.specs.JitterBuffer.{moved, concealed, stopped, step_due, after_step}
+use Rattle.model.specs.JitterBuffer.{moved, concealed, stopped, step_due}
 use Rattle.model.proofs.BoolLaws.{by_test, clash}
 use Rattle.calls.specs.declared.Sizes.{Sizes}
 use Rattle.calls.specs.Views.{sizes_of}
@@ -11,7 +11,6 @@ use Rattle.sizes.specs.View.{queue_at}
 use Rattle.jitter_buffer.specs.declared.JitterBuffer.{JitterBuffer}
 use Rattle.jitter_buffer.specs.declared.NextSequence.{NextSequence}
 use Rattle.jitter_buffer.specs.declared.NextSequence.TheVariants.{NotStarted, Next}
-use Rattle.jitter_buffer.specs.declared.FillStep.{FillStep}
 use Rattle.jitter_buffer.specs.declared.FillStep.TheVariants.{Moved, Concealed, Stopped}
 use Rattle.jitter_buffer.specs.declared.Turn.TheVariants.{More, Done}
 use Rattle.jitter_buffer.specs.View.{step_of, view_from}

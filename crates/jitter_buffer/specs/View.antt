@@ -1,5 +1,5 @@
 -- The model's buffer that the struct and its two lent parts hold: the waiting samples and the queue in the f32 part, the waiting sequences in the u32 part. Assumes nothing.
-use Rattle.std.specs.Prelude.{ℕ, zero, suc, ◌+◌, ◌-◌, ◌*◌, List, [], ◌∷◌, slice_index, Float}
+use Rattle.std.specs.Prelude.{ℕ, zero, suc, ◌-◌, ◌*◌, List, [], ◌∷◌, slice_index, Float}
 use Rattle.std.proofs.Math.Option.{Option, none, some}
 use Rattle.model.specs.Bytes.{part}
 use Rattle.model.specs.Samples.{samples_of}

@@ -1,26 +1,25 @@
 -- What a play's code leaves of the queue and writes to the output is what the model's play hands out. Assumes nothing.
-use mathlib.Core.Path.{◌≡◌, refl, sym, ◌∙◌, ap}
-use mathlib.Core.Bool.{Bool, true, false, cond}
+use mathlib.Core.Path.{◌≡◌, sym, ◌∙◌, ap}
 use mathlib.Core.List.{List, [], ◌∷◌, ◌++◌, append-nil}
-use Prim.Native.Nat.{ℕ, zero, suc, ◌+◌, ◌-◌, ◌*◌, ◌≤◌, ◌<◌, min}
-use native.Mathlib.Nat.{zero-add, add-zero, sub-zero}
+use Prim.Native.Nat.{ℕ, zero, suc, ◌+◌, ◌-◌, ◌≤◌, ◌<◌, min}
+use native.Mathlib.Nat.{add-zero, sub-zero}
 use native.Mathlib.Omega.{arith}
-use lib.ListN.{length, take, drop, replicate, length-drop, length-take, length-replicate, length-append, drop_of_length-le}
-use lib.Seq.{take-nil, drop-drop, take-take, take_all, ext_get_or, drop-append-add, take-append_seam}
+use lib.ListN.{length, take, drop, replicate, length-take, length-replicate, drop_of_length-le}
+use lib.Seq.{take-nil, drop-drop, take-take, take_all, drop-append-add, take-append_seam}
 use lib.Dec.{leb}
 use lib.Ieee.{Float, nan}
 use borrow.Author.Tests.{leb-true, leb-false}
 use Rattle.model.specs.Bytes.{part, placed}
 use Rattle.model.specs.Floats.{f0}
 use Rattle.model.specs.Sizes.{most_waiting}
-use Rattle.model.specs.JitterBuffer.{Buffer, Played, PlayResult, hand_out, count_short}
+use Rattle.model.specs.JitterBuffer.{hand_out, count_short}
 use Rattle.model.proofs.BoolLaws.{by_test}
-use Rattle.areas.proofs.Placed.{part_length, get_d_part, part_within, placed_none}
+use Rattle.areas.proofs.Placed.{part_length, part_within}
 use Rattle.calls.specs.declared.Sizes.{Sizes}
 use Rattle.calls.specs.Views.{sizes_of}
 use Rattle.sizes.specs.View.{queue_at}
 use Rattle.jitter_buffer.specs.declared.JitterBuffer.{JitterBuffer}
-use Rattle.jitter_buffer.specs.View.{packets_from, view_of}
+use Rattle.jitter_buffer.specs.View.{view_of}
 use Rattle.jitter_pop.specs.Fields.{played_fields}
 use Rattle.jitter_buffer.specs.Promises.{Lent}
 use Rattle.jitter_buffer.proofs.FillView.{waiting_stays}

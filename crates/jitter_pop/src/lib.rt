@@ -1,5 +1,7 @@
 // A play of a channel's jitter buffer: samples come out of the playout queue, the oldest are dropped where it
 // grows too long, and what is short is silence. The buffer and its lent memory are those of `jitter_buffer`.
+#![tactic(auto)]
+
 ghost use Rattle.std.specs.Prelude.{◌≡◌, ◌+◌, ◌^◌, ◌≤◌, ◌<◌, min, length, replicate};
 ghost use Rattle.model.specs.Floats.{f0};
 ghost use Rattle.model.specs.JitterBuffer.{fill, drop_count, play_filled};
@@ -14,7 +16,7 @@ use jitter_buffer::{JitterBuffer, NextSequence};
 
 // What a play leaves and answers: the samples that were queued, those dropped before them, and those
 // that were made up behind them.
-#[derive(Drop)]
+#[derive(Clone, Copy)]
 pub struct Popped {
     pub buffer: JitterBuffer,
     pub taken: usize,

@@ -4,7 +4,7 @@ use receiver_state::{Answer, Answered, Receiver};
 use std::num::wrapping_add_u64;
 
 // What a header says, but for its timestamp.
-#[derive(Drop)]
+#[derive(Clone, Copy)]
 pub struct Header {
     pub magic: u16,
     pub version: u8,
@@ -13,7 +13,7 @@ pub struct Header {
 }
 
 // A call. A datagram has samples that count up from the number, and so many bytes; a play so many samples.
-#[derive(Drop)]
+#[derive(Clone, Copy)]
 pub enum Act {
     Datagram(Header, u64, usize),
     Play(usize),
@@ -21,7 +21,7 @@ pub enum Act {
 }
 
 // How many places of each area are lent to a call.
-#[derive(Drop)]
+#[derive(Clone, Copy)]
 pub struct Lent {
     pub floats: usize,
     pub words: usize,

@@ -10,7 +10,7 @@ use receiver_setup::{Opening, setup};
 use receiver_state::{Answered, Receiver};
 use std::num::wrapping_add_u64;
 
-#[derive(Drop)]
+#[derive(Clone, Copy)]
 pub enum Change {
     Sizes(Sizes),
     Calls(u64),
@@ -22,7 +22,7 @@ pub enum Change {
     Second(u32),
 }
 
-#[derive(Drop)]
+#[derive(Clone, Copy)]
 pub enum Expect {
     Refused(u32),
     Accepted,

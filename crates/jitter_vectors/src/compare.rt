@@ -8,7 +8,7 @@ use std::num::wrapping_add_usize;
 
 // What is not as expected: its number in the list of names (see tally), its place where it is one of many, and
 // both values.
-#[derive(Drop)]
+#[derive(Clone, Copy)]
 pub struct Difference {
     pub what: usize,
     pub place: usize,
@@ -16,7 +16,7 @@ pub struct Difference {
     pub expected: u64,
 }
 
-#[derive(Drop)]
+#[derive(Clone, Copy)]
 pub enum Agreed {
     // The place behind the last number.
     Until(usize),
@@ -119,7 +119,7 @@ pub fn samples_agree(out: &[f32], text: &[u8], from: usize) -> Agreed {
     Agreed::Until(at)
 }
 
-#[derive(Drop)]
+#[derive(Clone, Copy)]
 pub enum Equality {
     Holds,
     Fails(Difference),

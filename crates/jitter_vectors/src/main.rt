@@ -2,6 +2,8 @@
 // what rigflow's jitter_buffer.rs (rustc 1.95.0, x86-64) answered to the same calls, printed and explained by
 // oracle/jitter_sessions.sh. What rigflow does not have, `filled` and the refusals, follows the rules in
 // docs/RECEIVER.md. A session's line says ok, or the first difference.
+#![tactic(auto)]
+
 mod acts;
 mod asked;
 mod compare;

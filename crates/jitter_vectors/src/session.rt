@@ -9,21 +9,21 @@ use receiver_state::{Answer, Receiver};
 use std::num::wrapping_add_usize;
 
 // What a call left, and whether its line agrees.
-#[derive(Drop)]
+#[derive(Clone, Copy)]
 struct Stepped {
     receiver: Receiver,
     agreed: Agreed,
 }
 
 // A line's call, and the place behind it.
-#[derive(Drop)]
+#[derive(Clone, Copy)]
 struct Parsed {
     act: Act,
     at: usize,
 }
 
 // Where a session's next line stands, if there is one.
-#[derive(Drop)]
+#[derive(Clone, Copy)]
 enum Line {
     At(usize),
     Missing,

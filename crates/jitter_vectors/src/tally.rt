@@ -3,7 +3,7 @@ use crate::compare::{Difference, Equality};
 use calls::Side;
 use std::num::wrapping_add_u64;
 
-#[derive(Drop)]
+#[derive(Clone, Copy)]
 pub struct Tally {
     pub sessions: u64,
     pub equal: u64,
@@ -11,7 +11,7 @@ pub struct Tally {
 }
 
 // How a session ended: so many calls equal, or the channel and its call that differs.
-#[derive(Drop)]
+#[derive(Clone, Copy)]
 pub enum Ended {
     Equal(u64),
     Differs(Side, u64, Difference),

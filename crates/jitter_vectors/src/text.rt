@@ -2,7 +2,7 @@
 use crate::tally::begun;
 use std::num::wrapping_add_usize;
 
-#[derive(Drop)]
+#[derive(Clone, Copy)]
 pub struct Number {
     pub value: u64,
     // The place behind it.
@@ -113,7 +113,7 @@ pub fn name(text: &[u8], at: usize) {
 }
 
 // What a line of a session calls.
-#[derive(Drop)]
+#[derive(Clone, Copy)]
 pub enum Call {
     Push,
     Play,

@@ -4,9 +4,9 @@ use mathlib.Core.Path.{◌≡◌, refl, sym, ◌∙◌, ap}
 use mathlib.Core.List.{List, [], ◌∷◌, ◌++◌, map, append_assoc, append-nil}
 use native.Mathlib.Omega.{arith}
 use native.Mathlib.Numerals.{add-one}
-use lib.ListN.{length, take, get_or, length-append, length-take}
+use lib.ListN.{length, take, get_or, length-append}
 use lib.Seq.{take-suc}
-use Rattle.model.specs.Replay.{decimal, signed_decimal, hex_digits, hex_bits, line, rest}
+use Rattle.model.specs.Replay.{decimal, signed_decimal, hex_digits, hex_bits, rest}
 use Rattle.model.specs.Floats.{to_bits}
 use Rattle.model.proofs.Decimal.{decimal_at_most, hex_digits_length}
 use Rattle.model.proofs.ListLaws.{placed_length}

@@ -1,4 +1,6 @@
 // Lines of replay's output, as pieces of text at the front of lent bytes.
+#![tactic(auto)]
+
 ghost use Rattle.std.specs.Prelude.{[], ◌∷◌, map, ◌≡◌, ◌+◌, ◌*◌, ◌≤◌, min, length};
 ghost use Rattle.model.specs.Replay.{decimal, signed_decimal, hex_bits, line, side_letter, or_dash};
 ghost use Rattle.audio_metrics.specs.Views.{timing_of, delay_of};

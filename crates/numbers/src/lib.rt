@@ -1,4 +1,6 @@
 // Numbers in a slice that a caller in another language lends.
+#![tactic(auto)]
+
 ghost use Rattle.std.specs.Prelude.{◌≡◌, ◌+◌, min};
 ghost use Rattle.std.proofs.lemmas.List.Edits.{sets};
 

@@ -1,7 +1,7 @@
 -- What kind of answer a call can get: a play alone is answered with samples, and a datagram alone with a row; neither where question 1 says no. Assumes
 -- nothing.
 use mathlib.Core.Path.{◌≡◌, refl, sym, ◌∙◌, ap}
-use mathlib.Core.Bool.{true, false}
+use mathlib.Core.Bool.{true}
 use mathlib.Core.Option.{Option, none, some}
 use mathlib.Core.List.{List}
 use Prim.Native.Nat.{ℕ}
@@ -9,7 +9,6 @@ use lib.Ieee.{Float}
 use Rattle.model.specs.Sizes.{Sizes, sizes_allowed}
 use Rattle.model.specs.Framing.{Header, Side, A, B, Stream, audio, waterfall, other_stream, stream_in}
 use Rattle.model.specs.Row.{Row}
-use Rattle.model.specs.Clock.{Clock}
 use Rattle.model.specs.Receiver.{Lent, Call, datagram, play, reset, set, probe, one_way, depth, transmit_depth, Channel, State, Answer, refused, accepted, played, row, StepResult}
 use Rattle.model.specs.Questions.{first_no, questions}
 use Rattle.model.specs.Step.{ChannelResult, play_channel, reset_channel, set_channel, audio_into, chunk_result, waterfall_into, on_side, on_clock, dispatch, take_datagram, changes, accept, decide, step}

@@ -1,8 +1,8 @@
 -- What becomes of a step at a tape's place, by what stands there. Assumes nothing.
-use Prim.Native.Nat.{ℕ, ◌≤◌, ◌<◌}
-use mathlib.Core.Path.{◌≡◌, refl, sym, ◌∙◌, ap, subst}
+use Prim.Native.Nat.{ℕ}
+use mathlib.Core.Path.{◌≡◌, refl, sym, subst}
 use mathlib.Core.Bool.{true, false, ◌&&◌}
-use mathlib.Core.Option.{Option, none, some}
+use mathlib.Core.Option.{none}
 use mathlib.Core.List.{List}
 use lib.ListN.{length}
 use lib.Dec.{leb}
@@ -14,18 +14,16 @@ use Rattle.model.specs.Tape.{call_at}
 use Rattle.model.proofs.BoolLaws.{clash}
 use Rattle.model.proofs.BytesLaws.{is_byte}
 use Rattle.calls.specs.Views.{sizes_of}
-use Rattle.receiver_state.specs.declared.Receiver.{Receiver}
 use Rattle.receiver_state.specs.declared.Answered.{Answered}
 use Rattle.replaying.specs.Acting.{call_found, MadeOf, TooMany}
 use Rattle.playback_parts.specs.declared.Form.{Form}
 use Rattle.playback_parts.specs.declared.Doing.{Doing}
-use Rattle.playback_parts.specs.declared.Doing.TheVariants as Doing
 use Rattle.playback_parts.specs.declared.Playback.{Playback}
 use Rattle.playback.specs.declared.Wrote.{Wrote}
 use Rattle.playback_parts.specs.declared.facts.Facts.{Facts}
 use Rattle.playback_parts.specs.declared.facts.Kind.TheVariants as Kind
 use Rattle.playback_parts.specs.Facts.{FactsOf}
-use Rattle.playback.specs.Steps.{asked_next, room_for, WrittenAs, CallBegun}
+use Rattle.playback.specs.Steps.{room_for, WrittenAs, CallBegun}
 use Rattle.playback.proofs.Written.{call_written}
 
 module _ (tape : List ℕ) (w : Playback) (facts : Facts) (doing : w.doing ≡ Doing.Call) where

@@ -2,7 +2,7 @@
 use Prim.Native.Nat.{ℕ, ◌+◌, ◌≤◌, ◌<◌}
 use mathlib.Core.Path.{◌≡◌, refl, sym, ◌∙◌, ap}
 use mathlib.Core.Bool.{Bool, true, false, true≢false}
-use mathlib.Core.List.{List, [], ◌∷◌, ◌++◌, append_assoc, append-nil}
+use mathlib.Core.List.{List, [], ◌++◌, append_assoc, append-nil}
 use native.Mathlib.Omega.{arith}
 use lib.ListN.{length, take, drop, length-append}
 use lib.Seq.{take_at}
@@ -14,12 +14,10 @@ use Rattle.model.proofs.BoolLaws.{clash}
 use Rattle.model.proofs.TapeWalk.{CallsAt, ended, met}
 use Rattle.playback_parts.specs.declared.Form.{Form}
 use Rattle.playback_parts.specs.declared.Doing.{Doing}
-use Rattle.playback_parts.specs.declared.Doing.TheVariants as Doing
 use Rattle.playback_parts.specs.declared.Playback.{Playback}
 use Rattle.playback.specs.declared.Turn.{Turn}
 use Rattle.playback.specs.declared.Wrote.{Wrote}
 use Rattle.playback.specs.declared.Step.{Step}
-use Rattle.playback.specs.declared.Step.TheVariants as Step
 use Rattle.playback_opening.specs.declared.Beginning.TheVariants as Beginning
 use Rattle.playback_parts.specs.Parts.{TextPut}
 use Rattle.playback_opening.specs.Beginnings.{BegunAs}

@@ -20,7 +20,6 @@ use Rattle.tape.proofs.CheckLaws.{found_takes}
 use Rattle.receiver_state.specs.declared.Answer.{Answer}
 use Rattle.receiver_state.specs.declared.Answer.TheVariants.{Refused, Accepted, Played, NoRow, Row}
 use Rattle.playback_parts.specs.declared.Doing.{Doing}
-use Rattle.playback_parts.specs.declared.Doing.TheVariants as Doing
 use Rattle.playback_parts.specs.declared.facts.Facts.{Facts}
 use Rattle.summary_lines.specs.Summaries.{RowHas}
 use Rattle.playback.specs.Steps.{values_held, stage, RowStands, row_length}

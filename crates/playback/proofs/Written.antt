@@ -1,13 +1,12 @@
 -- Each way in which a step goes on: a call and the beginning of its line, values of a line, and the closing lines. Assumes nothing.
-use Prim.Native.Nat.{ℕ, ◌+◌, ◌-◌, ◌*◌, ◌≤◌, ◌<◌, min}
+use Prim.Native.Nat.{ℕ, ◌+◌, ◌-◌, ◌≤◌, ◌<◌, min}
 use mathlib.Core.Path.{◌≡◌, refl, sym, ◌∙◌, ap}
-use mathlib.Core.Bool.{Bool, true, false, ◌&&◌, true≢false}
-use mathlib.Core.List.{List, [], ◌∷◌, ◌++◌, append_assoc, append-nil}
+use mathlib.Core.Bool.{Bool, true, false, true≢false}
+use mathlib.Core.List.{List, [], ◌++◌, append_assoc, append-nil}
 use native.Mathlib.Omega.{arith}
 use lib.ListN.{length, take, drop}
-use lib.Dec.{leb}
 use lib.Ieee.{Float}
-use borrow.Author.Tests.{leb-true, le-leb}
+use borrow.Author.Tests.{le-leb}
 use Rattle.model.specs.Bytes.{all, part}
 use Rattle.model.specs.Framing as Framing
 use Rattle.model.specs.Receiver as Model
@@ -16,9 +15,9 @@ use Rattle.model.specs.Sizes.{sizes_allowed}
 use Rattle.model.specs.Step.{step}
 use Rattle.model.specs.Tape.{words_of, call_at, found_call, found_end}
 use Rattle.model.specs.Replay.{side_of, channel_line, incoming_line, clock_line, closing_lines}
-use Rattle.model.proofs.BoolLaws.{clash, both_and, first_of_both, second_of_both}
+use Rattle.model.proofs.BoolLaws.{clash, both_and}
 use Rattle.model.proofs.BytesLaws.{is_byte}
-use Rattle.calls.specs.Views.{model_side, sizes_of}
+use Rattle.calls.specs.Views.{sizes_of}
 use Rattle.receiver_state.specs.declared.Receiver.{Receiver}
 use Rattle.receiver_state.specs.declared.Answer.{Answer}
 use Rattle.receiver_state.specs.declared.Answer.TheVariants.{Refused, Accepted, Played, NoRow, Row}
@@ -26,23 +25,20 @@ use Rattle.receiver_state.specs.declared.Answered.{Answered}
 use Rattle.receiver_state.specs.View.{state_of, lent_of, answer_of}
 use Rattle.receiver_state.specs.Report.{counters_in, report_of}
 use Rattle.replaying.specs.declared.printing.Left.{Left}
-use Rattle.replaying.specs.declared.printing.Left.TheVariants as Left
-use Rattle.replaying.specs.Acting.{samples_asked, values_of, CallMade, Unchanged}
-use Rattle.replaying.specs.Printing.{values_ended, left_of, left_behind}
+use Rattle.replaying.specs.Acting.{samples_asked, values_of, CallMade}
+use Rattle.replaying.specs.Printing.{left_of, left_behind}
 use Rattle.playback_parts.specs.declared.Form.{Form}
-use Rattle.playback_parts.specs.declared.Form.TheVariants as Form
 use Rattle.playback_parts.specs.declared.Doing.{Doing}
-use Rattle.playback_parts.specs.declared.Doing.TheVariants as Doing
 use Rattle.playback_parts.specs.declared.Playback.{Playback}
 use Rattle.playback.specs.declared.Wrote.{Wrote}
 use Rattle.playback_parts.specs.declared.facts.Facts.{Facts}
 use Rattle.playback_parts.specs.declared.parts.Part.{Part}
 use Rattle.playback_parts.specs.Facts.{place_of, CallFacts}
-use Rattle.playback_parts.specs.Parts.{part_ended, part_left, TextPut, PartPut}
+use Rattle.playback_parts.specs.Parts.{part_ended, PartPut}
 use Rattle.playback_parts.specs.Forms.{answer_as, printed_from}
 use Rattle.playback_parts.proofs.FormLaws.{printed_end, printed_step}
-use Rattle.playback.specs.Steps.{remaining, remaining_of, values_held, makes_call, stage, steps_left, calls_now, place_next, CallDone, WrittenAs, doing_after, left_as, RowStands, CallBegun, Printed, incoming_of, clock_of, behind_part, samples_left, values_left}
-use Rattle.playback.proofs.AnswerKinds.{Kind, rows, samples, answer_kind, call_kind, answer_kind_law, answer_allowed}
+use Rattle.playback.specs.Steps.{remaining, remaining_of, values_held, makes_call, stage, steps_left, calls_now, place_next, CallDone, WrittenAs, doing_after, left_as, RowStands, CallBegun, Printed, incoming_of, clock_of, samples_left, values_left}
+use Rattle.playback.proofs.AnswerKinds.{rows, samples, call_kind, answer_kind_law, answer_allowed}
 use Rattle.playback.proofs.Walks.{call_moves, stage_few, moved_less, part_inside}
 
 -- ---- a call

@@ -17,18 +17,14 @@ use Rattle.receiver_state.specs.View.{state_of, lent_of, answer_of}
 use Rattle.receiver_state.specs.Promises.{Called}
 use Rattle.receiver_state.specs.Report.{incoming_numbers, clock_words}
 use Rattle.replaying.specs.declared.printing.Left.{Left}
-use Rattle.replaying.specs.declared.printing.Left.TheVariants as Left
 use Rattle.replaying.specs.Acting.{samples_asked, Unchanged}
 use Rattle.replaying.specs.Printing.{left_of, left_behind}
 use Rattle.playback_parts.specs.declared.Form.{Form}
-use Rattle.playback_parts.specs.declared.Form.TheVariants as Form
 use Rattle.playback_parts.specs.declared.Doing.{Doing}
-use Rattle.playback_parts.specs.declared.Doing.TheVariants as Doing
 use Rattle.playback_parts.specs.declared.Playback.{Playback}
 use Rattle.playback.specs.declared.Turn.{Turn}
 use Rattle.playback.specs.declared.Wrote.{Wrote}
 use Rattle.playback.specs.declared.Step.{Step}
-use Rattle.playback.specs.declared.Step.TheVariants as Step
 use Rattle.playback_parts.specs.declared.facts.Facts.{Facts}
 use Rattle.playback_parts.specs.declared.facts.Kind.TheVariants as Kind
 use Rattle.playback_parts.specs.declared.parts.Part.{Part}

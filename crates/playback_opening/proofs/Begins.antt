@@ -1,14 +1,13 @@
 -- How a replay begins, by what the tape's front and setup say. Assumes nothing.
-use Prim.Native.Nat.{ℕ, ◌*◌, ◌≤◌}
-use mathlib.Core.Path.{◌≡◌, refl, sym, ◌∙◌, ap}
+use Prim.Native.Nat.{ℕ, ◌*◌}
+use mathlib.Core.Path.{◌≡◌, refl, sym, ap}
 use mathlib.Core.Bool.{true, false}
 use mathlib.Core.List.{List}
 use lib.ListN.{length}
 use lib.Dec.{leb}
 use lib.Ieee.{Float}
-use Rattle.model.specs.Receiver as Model
 use Rattle.model.specs.Tape.{Tape, TapeRead, read_tape, bad_tape, read}
-use Rattle.model.specs.Replay.{refused_line, bad_tape_line, replay_over, replay_within}
+use Rattle.model.specs.Replay.{bad_tape_line, replay_over, replay_within}
 use Rattle.model.proofs.BoolLaws.{clash}
 use Rattle.model.proofs.TapeWalk.{walk}
 use Rattle.tape.specs.declared.Setup.{Setup}
@@ -20,7 +19,6 @@ use Rattle.playback_parts.specs.declared.Form.{Form}
 use Rattle.playback_parts.specs.Forms.{printed_over}
 use Rattle.playback_parts.proofs.FormLaws.{printed_of_bad_tape, printed_of_refused_setup, printed_of_session}
 use Rattle.playback_opening.specs.declared.Beginning.{Beginning}
-use Rattle.playback_opening.specs.declared.Beginning.TheVariants as Beginning
 use Rattle.playback_parts.specs.Parts.{TextPut}
 use Rattle.playback_opening.specs.Beginnings.{SetupBegun, BegunAs, BegunTo}
 

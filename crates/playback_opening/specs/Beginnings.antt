@@ -7,13 +7,11 @@ use Rattle.model.specs.Replay.{refused_line}
 use Rattle.model.proofs.TapeWalk.{CallsAt}
 use Rattle.receiver_state.specs.View.{state_of, lent_of}
 use Rattle.playback_parts.specs.declared.Form.{Form}
-use Rattle.playback_parts.specs.declared.Form.TheVariants as Form
 use Rattle.playback_parts.specs.declared.Doing.TheVariants as Doing
 use Rattle.playback_parts.specs.declared.Playback.{Playback}
 use Rattle.playback_parts.specs.Forms.{printed_from}
 use Rattle.playback_parts.specs.Parts.{TextPut}
 use Rattle.playback_opening.specs.declared.Beginning.{Beginning}
-use Rattle.playback_opening.specs.declared.Beginning.TheVariants as Beginning
 
 -- a receiver was set up, and the first call comes next
 pub record SetUp (setup : Model.Setup) (fs : List Float) (us text : List ℕ) (w : Playback) (us' text' : List ℕ) : Type 0 where

@@ -1,4 +1,6 @@
 // The beginning of a replay: the whole tape is checked, and then setup is made.
+#![tactic(auto)]
+
 pub mod limits;
 
 ghost use Rattle.std.specs.Prelude.{◌≤◌, length};
@@ -14,7 +16,7 @@ use replaying::printing::length_put;
 use tape::{Setup, SetupRead};
 
 // How a replay begins.
-#[derive(Drop)]
+#[derive(Clone, Copy)]
 pub enum Beginning {
     // Refusal 2: text of less than 170 bytes. Nothing was done.
     NoRoom,

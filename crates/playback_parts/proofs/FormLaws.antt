@@ -10,7 +10,6 @@ use Rattle.model.specs.Replay.{side_of, closing_lines, refused_line, bad_tape_li
 use Rattle.model.proofs.ReplaySteps.{lines_end, lines_step, lines_of_bad_tape, lines_of_refused_setup, lines_of_session}
 use Rattle.model.proofs.SummarySteps.{summary_end, summary_step, summary_of_bad_tape, summary_of_refused_setup, summary_of_session}
 use Rattle.playback_parts.specs.declared.Form.{Form}
-use Rattle.playback_parts.specs.declared.Form.TheVariants as Form
 use Rattle.playback_parts.specs.Forms.{answer_as, printed_from, printed_over}
 
 pub printed_end : (form : Form) (lent : Lent) (s : State) → printed_from form lent [] s ≡ closing_lines s

@@ -1,5 +1,5 @@
 -- A part of a line's values, or the line's end. Assumes nothing.
-use Prim.Native.Nat.{ℕ, zero, suc, ◌+◌, ◌-◌, ◌*◌, ◌/◌, ◌≤◌, ◌<◌, min}
+use Prim.Native.Nat.{ℕ, zero, suc, ◌+◌, ◌-◌, ◌*◌, ◌≤◌, ◌<◌}
 use mathlib.Core.Path.{◌≡◌, refl, sym, ◌∙◌, ap}
 use mathlib.Core.Bool.{true, false}
 use mathlib.Core.List.{List, [], ◌∷◌, ◌++◌, map, append_assoc}
@@ -14,7 +14,7 @@ use Rattle.text.proofs.WrittenLaws.{byte_placed}
 use Rattle.lines.specs.Lines.{spaced, ValuesWritten}
 use Rattle.lines.proofs.Pieces.{values_go_on}
 use Rattle.replaying.specs.Printing.{values_ended}
-use Rattle.playback_parts.specs.Parts.{part_ended, TextPut, PartPut}
+use Rattle.playback_parts.specs.Parts.{part_ended, PartPut}
 
 pub line_ended : (values : List Float) (from end : ℕ) (entry : List ℕ) → from ≡ end → 0 < length entry
     → PartPut values from end entry (set entry 0 10) (record { from = from; ended = true; bytes = 1 })

@@ -1,10 +1,10 @@
 -- The stream's byte of a datagram. Assumes nothing.
-use Prim.Native.Nat.{ℕ, ◌+◌, ◌<◌, ◌≤◌}
-use mathlib.Core.Path.{◌≡◌, refl, sym, ◌∙◌, ap}
+use Prim.Native.Nat.{ℕ, ◌<◌, ◌≤◌}
+use mathlib.Core.Path.{◌≡◌, refl, ap}
 use mathlib.Core.List.{List, [], ◌∷◌}
 use native.Mathlib.Omega.{arith}
-use lib.ListN.{length, take, drop, get_or}
-use Rattle.model.specs.Bytes.{part, big_endian}
+use lib.ListN.{length, get_or}
+use Rattle.model.specs.Bytes.{big_endian}
 use Rattle.model.specs.Sizes as Sizing
 use Rattle.model.specs.Framing.{stream_of, stream_in, waterfall, other_stream, header_fields}
 use Rattle.calls.specs.declared.Side.{Side}

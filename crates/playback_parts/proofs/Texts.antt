@@ -1,6 +1,6 @@
 -- A text that had room stands at the front, and the closing lines are such texts. Assumes nothing.
 use Prim.Native.Nat.{ℕ, ◌≤◌}
-use mathlib.Core.Path.{◌≡◌, refl, sym, ◌∙◌, ap}
+use mathlib.Core.Path.{◌≡◌, ◌∙◌, ap}
 use mathlib.Core.List.{List, [], ◌∷◌, map}
 use lib.ListN.{length}
 use borrow.Author.Tests.{le-leb}

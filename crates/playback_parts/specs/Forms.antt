@@ -7,7 +7,6 @@ use Rattle.model.specs.Summary.{answer_summary, summary_over}
 use Rattle.model.proofs.ReplaySteps.{lines_from}
 use Rattle.model.proofs.SummarySteps.{summary_from}
 use Rattle.playback_parts.specs.declared.Form.{Form}
-use Rattle.playback_parts.specs.declared.Form.TheVariants as Form
 
 abbrev pub answer_as : Form → Side → Answer → List ℕ
 answer_as Form.Full side a = answer_line side a

@@ -1,5 +1,5 @@
 -- Pieces of text at the front of lent bytes, and values of a line. Assumes nothing.
-use Rattle.std.specs.Prelude.{ℕ, ◌-◌, ◌≤◌, ◌<◌, ◌≡◌, Bool, true, false, List, [], ◌∷◌, ◌++◌, length, Float}
+use Rattle.std.specs.Prelude.{ℕ, ◌-◌, ◌≤◌, ◌<◌, ◌≡◌, Bool, true, false, List, [], ◌++◌, length, Float}
 use Rattle.model.specs.Bytes.{part, placed}
 use Rattle.replaying.specs.Printing.{values_ended}
 use Rattle.playback_parts.specs.declared.parts.Part.{Part}

@@ -13,7 +13,7 @@ use receiver_state::readings::{Place, row_place};
 use tape::Found;
 
 // What stands at a tape's place.
-#[derive(Drop)]
+#[derive(Clone, Copy)]
 pub enum Kind {
     Call,
     End,
@@ -23,7 +23,7 @@ pub enum Kind {
 
 // Of a call the channel that it is for, the place behind it, the samples that it asks for, and where a row that it completes
 // stands.
-#[derive(Drop)]
+#[derive(Clone, Copy)]
 pub struct Facts {
     pub kind: Kind,
     pub side: Side,
@@ -43,7 +43,7 @@ fn stream_in(bytes: &[u8]) -> Stream
 }
 
 // A channel and a row's place, for a stream.
-#[derive(Drop)]
+#[derive(Clone, Copy)]
 pub struct StreamFacts {
     pub side: Side,
     pub row: usize,

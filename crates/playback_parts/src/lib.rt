@@ -1,5 +1,7 @@
 // Where a replay is, and the parts of its steps: what is to be known of a call before it is made, values of a line as many at a
 // time as there is room for, and the closing lines.
+#![tactic(auto)]
+
 pub mod closing;
 pub mod facts;
 pub mod parts;
@@ -10,7 +12,7 @@ use receiver_state::Receiver;
 pub const PIECE: usize = 170;
 
 // What is printed of a tape.
-#[derive(Drop)]
+#[derive(Clone, Copy)]
 pub enum Form {
     // Every line whole.
     Full,
@@ -19,7 +21,7 @@ pub enum Form {
 }
 
 // What a step prints next.
-#[derive(Drop)]
+#[derive(Clone, Copy)]
 pub enum Doing {
     // The line of the call at the place, as far as its values.
     Call,
@@ -35,7 +37,7 @@ pub enum Doing {
 }
 
 // Where a replay is: the receiver, the tape's next place, and what is printed next.
-#[derive(Drop)]
+#[derive(Clone, Copy)]
 pub struct Playback {
     pub receiver: Receiver,
     pub place: usize,

@@ -2,7 +2,7 @@
 ghost use Rattle.std.specs.Prelude.{◌≤◌, length};
 ghost use Rattle.playback_parts.specs.Parts.{PartPut};
 
-#[derive(Drop)]
+#[derive(Clone, Copy)]
 pub struct Part {
     // Where the values go on, and whether the line has ended.
     pub from: usize,

@@ -13,7 +13,6 @@ use Rattle.playback_parts.specs.declared.Form.{Form}
 use Rattle.playback_parts.specs.Parts.{TextPut}
 use Rattle.playback.specs.declared.Wrote.{Wrote}
 use Rattle.playback.specs.declared.Step.{Step}
-use Rattle.playback.specs.declared.Step.TheVariants as Step
 use Rattle.playback.specs.declared.Turn.{Turn}
 use Rattle.playback.specs.Steps.{steps_left, turns_left, DoneAs}
 use Rattle.playback.specs.Chains.{Moment, WroteAs, StepsAs}

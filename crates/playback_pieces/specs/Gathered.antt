@@ -2,18 +2,14 @@
 use Rattle.std.specs.Prelude.{ℕ, ◌+◌, ◌≤◌, ◌<◌, ◌≡◌, Bool, true, false, List, [], ◌++◌, length, take, drop, ltb, Float}
 use Rattle.playback_parts.specs.declared.Form.{Form}
 use Rattle.playback_parts.specs.declared.Doing.{Doing}
-use Rattle.playback_parts.specs.declared.Doing.TheVariants as Doing
 use Rattle.playback_parts.specs.declared.Playback.{Playback}
 use Rattle.playback_parts.specs.Parts.{TextPut}
 use Rattle.playback.specs.declared.Wrote.{Wrote}
 use Rattle.playback.specs.declared.Step.{Step}
-use Rattle.playback.specs.declared.Step.TheVariants as Step
 use Rattle.playback.specs.Steps.{steps_left, WrittenAs, DoneAs}
 use Rattle.playback.specs.Chains.{Moment, WroteAs}
 use Rattle.playback_pieces.specs.declared.Stop.{Stop}
-use Rattle.playback_pieces.specs.declared.Stop.TheVariants as Stop
 use Rattle.playback_pieces.specs.declared.Next.{Next}
-use Rattle.playback_pieces.specs.declared.Next.TheVariants as Next
 use Rattle.playback_pieces.specs.declared.Gathered.{Gathered}
 
 -- ---- how far the steps may go

@@ -1,5 +1,7 @@
 // The steps of a replay one after the other, each piece of text behind the last one, as far as the lent bytes have room. So
 // a program writes many pieces at once.
+#![tactic(auto)]
+
 ghost use Rattle.std.specs.Prelude.{◌≡◌, ◌≤◌, length};
 ghost use Rattle.playback_pieces.specs.Gathered.{comes_before, moment, Further, AllGathered};
 
@@ -8,7 +10,7 @@ use playback::{Step, Wrote};
 use playback_parts::{Doing, Form, PIECE, Playback};
 
 // Why no further step was made.
-#[derive(Drop)]
+#[derive(Clone, Copy)]
 pub enum Stop {
     // There is no room for another piece.
     Full,
@@ -19,7 +21,7 @@ pub enum Stop {
 }
 
 // What the steps wrote: so many bytes at the front of the text.
-#[derive(Drop)]
+#[derive(Clone, Copy)]
 pub struct Gathered {
     pub playback: Playback,
     pub bytes: usize,
@@ -27,7 +29,7 @@ pub struct Gathered {
 }
 
 // What one step did.
-#[derive(Drop)]
+#[derive(Clone, Copy)]
 pub enum Next {
     // It wrote: so many bytes are there now.
     Wrote(Wrote),

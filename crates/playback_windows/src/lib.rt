@@ -1,6 +1,8 @@
 // The replay of a tape of which only a window is in memory. A replay's place is counted from the window's first word; where that word stands
 // in the whole tape no function asks. What a step promises holds of every tape that the window can be of. No function asks anything of
 // its caller.
+#![tactic(auto)]
+
 ghost use Rattle.std.specs.Prelude.{◌≡◌};
 ghost use Rattle.playback.specs.Steps.{makes_call};
 ghost use Rattle.playback_pieces.specs.Gathered.{moment};
@@ -19,7 +21,7 @@ use tape_windows::{LONGEST_CALL, has_words};
 const EVERY_PLACE: usize = 0xffff_ffff_ffff_ffff;
 
 // What a step through a window answers.
-#[derive(Drop)]
+#[derive(Clone, Copy)]
 pub enum StepIn {
     // As through the whole tape, with places counted from the window's first word.
     Whole(Step),

@@ -1,9 +1,9 @@
 -- The floats of bytes: how many they are, and which stands at a place. Assumes nothing.
-use mathlib.Core.Path.{◌≡◌, refl, sym, ◌∙◌, ap}
+use mathlib.Core.Path.{◌≡◌, refl}
 use mathlib.Core.List.{List, [], ◌∷◌}
 use Prim.Native.Nat.{ℕ, zero, suc, ◌+◌, ◌*◌, ◌/◌, ◌≤◌, ◌<◌}
 use native.Mathlib.Omega.{arith}
-use lib.ListN.{length, take, drop, get_or}
+use lib.ListN.{length, get_or}
 use lib.Seq.{drop-cons}
 use lib.Ieee.{Float}
 use Rattle.model.specs.Bytes.{little_endian, part}

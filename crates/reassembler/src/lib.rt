@@ -1,6 +1,8 @@
 // Row reassembly, as rigflow-client/src/net/udp.rs has it: a waterfall row comes in chunks, each with the row's number,
 // its total of bins and its first bin. The row's state goes in by value and comes back; its values stand at the front of
 // a lent slice.
+#![tactic(auto)]
+
 ghost use Rattle.std.specs.Prelude.{◌≡◌, [], ◌+◌, ◌/◌, ◌≤◌, ◌<◌, length};
 ghost use Rattle.model.specs.Bytes.{little_endian, part};
 ghost use Rattle.model.specs.Floats.{from_bits};
@@ -11,7 +13,7 @@ ghost use Rattle.reassembler.specs.Rows.{chunk_of, open_of, row_of, counted_row,
 use udp_framing::big_endian::read_u16;
 
 // A row that chunks are stored in. `filled` counts overlaps again.
-#[derive(Drop)]
+#[derive(Clone, Copy)]
 pub struct OpenRow {
     pub row_seq: u16,
     pub total_bins: usize,
@@ -19,21 +21,21 @@ pub struct OpenRow {
     pub done: bool,
 }
 
-#[derive(Drop)]
+#[derive(Clone, Copy)]
 pub enum WaterfallReassembler {
     NoRow,
     Open(OpenRow),
 }
 
 // The bins of the row that a chunk completed, if it did.
-#[derive(Drop)]
+#[derive(Clone, Copy)]
 pub enum CompletedRow {
     NoRow,
     Bins(usize),
 }
 
 // What a chunk leaves.
-#[derive(Drop)]
+#[derive(Clone, Copy)]
 pub struct Pushed {
     pub row: WaterfallReassembler,
     pub completed: CompletedRow,

@@ -1,5 +1,7 @@
 // The receiver's call for a datagram: its header, its counts, and its stream's work.
 // It asks nothing of its caller: any bytes, areas and state are answered, and a refusal changes nothing.
+#![tactic(auto)]
+
 ghost use Rattle.std.specs.Prelude.{◌≡◌, length, ◌≤◌, min};
 ghost use Rattle.model.specs.Framing.{stream_of, stream_in, audio, waterfall, other_stream};
 ghost use Rattle.model.specs.Questions.{first_no, stream_allowed};
@@ -20,7 +22,7 @@ use udp::StreamCounts;
 use udp_framing::{MediaHeader, ParsedHeader};
 
 // The stream of a datagram: a channel's sound or rows, or one that no channel takes.
-#[derive(Drop)]
+#[derive(Clone, Copy)]
 pub enum Stream {
     Audio(Side),
     Waterfall(Side),

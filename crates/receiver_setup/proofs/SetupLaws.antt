@@ -3,7 +3,7 @@ use mathlib.Core.Path.{◌≡◌, refl, ◌∙◌, ap}
 use mathlib.Core.Bool.{true, false, ◌&&◌}
 use mathlib.Core.Option.{none, some}
 use mathlib.Core.List.{List}
-use Prim.Native.Nat.{ℕ, ◌+◌, ◌-◌, ◌*◌, ◌≤◌}
+use Prim.Native.Nat.{ℕ, ◌+◌, ◌*◌, ◌≤◌}
 use native.Mathlib.Nat.{add-zero}
 use native.Mathlib.Omega.{arith}
 use lib.ListN.{length, take, drop, replicate, length-replicate}
@@ -17,7 +17,6 @@ use Rattle.model.specs.Receiver.{fresh}
 use Rattle.model.specs.Questions.{first_no, areas_long, estimates_finite, setup_questions, set_up, opened_unless, not_opened}
 use Rattle.model.proofs.BoolLaws.{clash, second_of_both}
 use Rattle.model.proofs.ListLaws.{placed_length}
-use Rattle.calls.specs.declared.Side.TheVariants.{A}
 use Rattle.calls.specs.declared.Sizes.{Sizes}
 use Rattle.calls.specs.declared.Estimates.{Estimates}
 use Rattle.calls.specs.Views.{sizes_of, model_estimates, model_setup}

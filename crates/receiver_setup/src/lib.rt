@@ -1,4 +1,6 @@
 // Setup: questions 1, 2 and 5, then both pictures zeroed and a fresh receiver.
+#![tactic(auto)]
+
 ghost use Rattle.std.specs.Prelude.{◌≡◌};
 ghost use Rattle.receiver_setup.specs.Promises.{pictures_zeroed, SetupDone};
 ghost use Rattle.receiver_setup.specs.Setup.{SetupReady, SetupAsked, FreshReceiver};
@@ -11,7 +13,7 @@ use receiver_state::asking::{Verdict, areas_long, both_finite};
 use udp::StreamCounts;
 
 // What setup answers.
-#[derive(Drop)]
+#[derive(Clone, Copy)]
 pub enum Opening {
     // The number of the first question that was answered with no. Nothing was changed.
     Refused(u32),

@@ -11,13 +11,11 @@ use Rattle.model.specs.Step.{ChannelResult, step, on_side, waterfall_into}
 use Rattle.model.specs.WholeList.{CallBytes}
 use Rattle.model.proofs.HeldKept.{NextFits}
 use Rattle.calls.specs.declared.Side.{Side}
-use Rattle.calls.specs.declared.Sizes.{Sizes}
 use Rattle.calls.specs.Views.{model_side, sizes_of}
 use Rattle.jitter_buffer.specs.View.{next_of}
 use Rattle.reassembler.specs.Rows.{completed_of, CompletedInside}
 use Rattle.channel.specs.View.{channel_in, Inside}
 use Rattle.receiver_state.specs.declared.Receiver.{Receiver}
-use Rattle.receiver_state.specs.declared.Answer.{Answer}
 use Rattle.receiver_state.specs.declared.sides.RowsShown.{RowsShown}
 use Rattle.receiver_state.specs.declared.asking.Verdict.{Verdict}
 use Rattle.receiver_state.specs.declared.asking.Verdict.TheVariants.{Yes, No}

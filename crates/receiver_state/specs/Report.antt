@@ -1,6 +1,6 @@
 -- The report that a receiver gives, and the lines that a report stands for. Assumes nothing.
 use Rattle.std.specs.Prelude.{ℕ, List, [], ◌∷◌, ◌++◌, map, pos}
-use Rattle.model.specs.Framing.{Side, A, B}
+use Rattle.model.specs.Framing.{A, B}
 use Rattle.model.specs.JitterBuffer.{Counters}
 use Rattle.model.specs.Clock.{reading}
 use Rattle.model.specs.Replay.{line, decimal, or_dash, channel_line}

@@ -7,7 +7,6 @@ use Rattle.model.specs.Framing as Framing
 use Rattle.model.specs.Receiver as Model
 use Rattle.calls.specs.declared.Side.{Side}
 use Rattle.calls.specs.declared.Side.TheVariants.{A, B}
-use Rattle.calls.specs.declared.Sizes.{Sizes}
 use Rattle.calls.specs.Views.{sizes_of}
 use Rattle.audio_metrics.specs.Views.{clock_of}
 use Rattle.udp.specs.Views.{counts_of}

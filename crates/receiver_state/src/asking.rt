@@ -10,7 +10,7 @@ use crate::Receiver;
 use calls::{Estimates, Settings, Sizes};
 
 // The number of the first question that is answered with no, if one is.
-#[derive(Drop)]
+#[derive(Clone, Copy)]
 pub enum Verdict {
     Yes,
     No(u32),

@@ -1,5 +1,7 @@
 // A receiver's state, the questions about it, its readings, and the work on one channel before a call is counted. The state
 // goes in by value and comes back; the two areas are lent. The crates receiver and receiver_datagrams have the calls.
+#![tactic(auto)]
+
 pub mod asking;
 pub mod counted;
 pub mod readings;
@@ -11,7 +13,7 @@ use calls::Sizes;
 use channel::Channel;
 use udp::StreamCounts;
 
-#[derive(Drop)]
+#[derive(Clone, Copy)]
 pub struct Receiver {
     pub sizes: Sizes,
     // Accepted calls since setup.
@@ -27,7 +29,7 @@ pub struct Receiver {
 }
 
 // What a call answers.
-#[derive(Drop)]
+#[derive(Clone, Copy)]
 pub enum Answer {
     // The number of the first question that was answered with no. Nothing was changed.
     Refused(u32),
@@ -45,7 +47,7 @@ pub enum Answer {
 }
 
 // What a call leaves and answers.
-#[derive(Drop)]
+#[derive(Clone, Copy)]
 pub struct Answered {
     pub receiver: Receiver,
     pub answer: Answer,

@@ -12,7 +12,7 @@ use calls::{Side, Sizes};
 use jitter_buffer::JitterBuffer;
 
 // A place in a lent area.
-#[derive(Drop)]
+#[derive(Clone, Copy)]
 pub enum Place {
     At(usize),
     // Sizes that question 1 refuses have no places.
@@ -20,7 +20,7 @@ pub enum Place {
 }
 
 // How much a channel buffers.
-#[derive(Drop)]
+#[derive(Clone, Copy)]
 pub enum Buffered {
     Samples(usize),
     // The state's sizes are refused by question 1.

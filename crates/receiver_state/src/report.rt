@@ -8,7 +8,7 @@ use jitter_buffer::JitterBuffer;
 use udp::StreamCounts;
 
 // A channel's packets since setup or its last reset, and the samples that the player made up.
-#[derive(Drop)]
+#[derive(Clone, Copy)]
 pub struct SoundReport {
     pub received: u64,
     pub inserted: u64,
@@ -21,14 +21,14 @@ pub struct SoundReport {
 }
 
 // A stream's datagrams.
-#[derive(Drop)]
+#[derive(Clone, Copy)]
 pub struct StreamReport {
     pub packets: u64,
     pub dropped: u64,
     pub late: u64,
 }
 
-#[derive(Drop)]
+#[derive(Clone, Copy)]
 pub struct Report {
     pub a: SoundReport,
     pub b: SoundReport,

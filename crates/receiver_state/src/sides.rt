@@ -17,7 +17,7 @@ use channel::Channel;
 use reassembler::CompletedRow;
 
 // Where a channel's sections begin in the two areas.
-#[derive(Drop)]
+#[derive(Clone, Copy)]
 pub struct SectionStarts {
     pub floats: usize,
     pub words: usize,
@@ -104,7 +104,7 @@ pub fn audio_on(
 }
 
 // What a waterfall payload leaves, and the bins of the row that it completed, if it did.
-#[derive(Drop)]
+#[derive(Clone, Copy)]
 pub struct RowsShown {
     pub receiver: Receiver,
     pub completed: CompletedRow,

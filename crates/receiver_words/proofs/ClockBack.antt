@@ -2,11 +2,8 @@
 use mathlib.Core.Path.{◌≡◌, refl, sym, ◌∙◌, ap}
 use Rattle.model.specs.Clock as Clock
 use Rattle.audio_metrics.specs.declared.Timing.{Timing}
-use Rattle.audio_metrics.specs.declared.Timing.TheVariants as Timing
 use Rattle.audio_metrics.specs.declared.OneWay.{OneWay}
-use Rattle.audio_metrics.specs.declared.OneWay.TheVariants as OneWay
 use Rattle.audio_metrics.specs.declared.Jitter.{Jitter}
-use Rattle.audio_metrics.specs.declared.Jitter.TheVariants as Jitter
 use Rattle.audio_metrics.specs.declared.AudioMetrics.{AudioMetrics}
 use Rattle.audio_metrics.specs.Views.{timing_of, delay_of, depth_of, clock_of}
 use Rattle.receiver_words.specs.State.{timing_back, delay_back, depth_back, clock_back}

@@ -4,11 +4,8 @@ use Rattle.std.proofs.Math.Option.{Option, none, some}
 use Rattle.std.proofs.lemmas.List.Edits.{sets}
 use Rattle.model.specs.Clock as Clock
 use Rattle.audio_metrics.specs.declared.Timing.{Timing}
-use Rattle.audio_metrics.specs.declared.Timing.TheVariants as Timing
 use Rattle.audio_metrics.specs.declared.OneWay.{OneWay}
-use Rattle.audio_metrics.specs.declared.OneWay.TheVariants as OneWay
 use Rattle.audio_metrics.specs.declared.Jitter.{Jitter}
-use Rattle.audio_metrics.specs.declared.Jitter.TheVariants as Jitter
 use Rattle.audio_metrics.specs.declared.AudioMetrics.{AudioMetrics}
 use Rattle.audio_metrics.specs.Views.{clock_of}
 use Rattle.audio_metrics_words.specs.Words.{clock_in, clock_words}

@@ -15,6 +15,8 @@
 //   of smoothing; adaptive; top, range, zoom, smoothing; the estimates of top, floor and range
 //
 // A float stands by its bit pattern, in the low half of its word. A flag of 0 says that what follows it is absent.
+#![tactic(auto)]
+
 mod clock;
 pub mod state;
 mod words;

@@ -6,7 +6,6 @@ use native.Mathlib.Omega.{arith}
 use lib.ListN.{length}
 use lib.Ieee.{Float}
 use borrow.Author.Tests.{le-leb}
-use Rattle.model.specs.Bytes.{placed}
 use Rattle.model.specs.Framing.{Side}
 use Rattle.model.specs.Replay.{decimal, line, answer_line}
 use Rattle.text.specs.declared.Put.{Put}

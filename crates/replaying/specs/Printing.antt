@@ -1,10 +1,9 @@
 -- How a call's line begins, and what is left of it. Assumes nothing.
-use Rattle.std.specs.Prelude.{ℕ, ◌≤◌, ◌≡◌, List, [], ◌∷◌, ◌++◌, map, length, take, Float}
+use Rattle.std.specs.Prelude.{ℕ, ◌≡◌, List, [], ◌∷◌, ◌++◌, map, length, take, Float}
 use Rattle.model.specs.Bytes.{placed}
 use Rattle.model.specs.Framing.{Side}
 use Rattle.model.specs.Replay.{hex_bits, answer_line}
 use Rattle.text.specs.declared.Put.{Put}
-use Rattle.text.specs.declared.Put.TheVariants as Put
 use Rattle.lines.specs.Lines.{spaced}
 use Rattle.receiver_state.specs.declared.Answer.{Answer}
 use Rattle.receiver_state.specs.declared.Answer.TheVariants.{Refused, Accepted, Played, NoRow, Row}

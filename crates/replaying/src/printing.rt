@@ -8,7 +8,7 @@ use receiver_state::Answer;
 use text::Put;
 
 // What is still to be written of a line.
-#[derive(Drop)]
+#[derive(Clone, Copy)]
 pub enum Left {
     Nothing,
     // A play's samples, then the line's end.
@@ -18,7 +18,7 @@ pub enum Left {
 }
 
 // How many bytes were written, and what is left.
-#[derive(Drop)]
+#[derive(Clone, Copy)]
 pub struct Begun {
     pub written: usize,
     pub left: Left,

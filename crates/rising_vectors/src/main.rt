@@ -1,13 +1,16 @@
 // Holds the crates `rising` and `radix` against vectors whose rising order is known: both zeros,
 // equal values, reversed and long lists. A float stands by its bit pattern, and a vector's line says what was
 // found, what was expected, and whether the two are equal.
+#![tactic(auto)]
+
 ghost use Rattle.std.specs.Prelude.{◌≡◌, ◌<◌, length};
 ghost use Rattle.model.specs.Floats.{finite};
 ghost use Rattle.model.specs.Bytes.{all};
 
-use libc::STDOUT_FILENO;
+// A file descriptor.
+const STDOUT_FILENO: i32 = 1;
 
-#[derive(Drop)]
+#[derive(Clone, Copy)]
 struct Tally {
     seen: u64,
     different: u64,
@@ -145,7 +148,7 @@ fn equals_and_ends(mut t: Tally) -> Tally {
 }
 
 // A way through the numbers 1 to 65535, in which each comes once.
-#[derive(Drop)]
+#[derive(Clone, Copy)]
 enum Run {
     Scattered,
     Falling,
@@ -153,7 +156,7 @@ enum Run {
 }
 
 // What a long list has for a number of its run.
-#[derive(Drop)]
+#[derive(Clone, Copy)]
 enum Kind {
     // The number.
     Number,

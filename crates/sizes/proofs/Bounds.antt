@@ -1,11 +1,11 @@
 -- How large the numbers that follow from allowed sizes get. Assumes nothing.
 use mathlib.Core.Path.{◌≡◌}
 use mathlib.Core.Bool.{true}
-use Prim.Native.Nat.{ℕ, ◌+◌, ◌-◌, ◌*◌, ◌/◌, ◌≤◌, ◌<◌}
+use Prim.Native.Nat.{◌+◌, ◌-◌, ◌*◌, ◌≤◌}
 use native.Mathlib.Omega.{arith}
 use native.Mathlib.Nat.{div-mul-le_self, mul-le-mul, div-le_self}
 use Rattle.model.specs.Sizes.{Sizes, sizes_allowed, most_waiting, float_section, word_section}
-use Rattle.model.proofs.SizeLaws.{Allowed, allowed}
+use Rattle.model.proofs.SizeLaws.{allowed}
 
 module _ (z : Sizes) (ok : sizes_allowed z ≡ true) where
   pub waiting_samples_bound : most_waiting z * z.packet ≤ 135167

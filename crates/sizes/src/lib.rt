@@ -1,5 +1,7 @@
 // What follows from the six sizes of a receiver: whether they are allowed, how many packets may wait, how
 // long the lent areas must be, and where the parts of a channel's sections lie.
+#![tactic(auto)]
+
 ghost use Rattle.std.specs.Prelude.{◌≡◌, true};
 ghost use Rattle.model.specs.Sizes.{between, sizes_allowed, most_waiting, float_section, word_section, float_area, word_area};
 ghost use Rattle.calls.specs.Views.{sizes_of};
@@ -9,7 +11,7 @@ use calls::Sizes;
 
 // Where the parts of a channel's sections start. In the f32 section the waiting samples are at 0; in
 // the u32 section the waiting sequences are.
-#[derive(Drop)]
+#[derive(Clone, Copy)]
 pub struct Offsets {
     pub queue: usize,
     pub row: usize,

@@ -1,25 +1,21 @@
 -- Each answer's line in a summary, and a line from its beginning and its end. Assumes nothing.
 use Prim.Native.Nat.{ℕ, ◌+◌, ◌*◌, ◌≤◌, ◌<◌}
-use mathlib.Core.Path.{◌≡◌, refl, sym, ◌∙◌, ap}
+use mathlib.Core.Path.{◌≡◌, refl, sym, ap}
 use mathlib.Core.List.{List, [], ◌∷◌, ◌++◌, map}
 use native.Mathlib.Omega.{arith}
-use lib.ListN.{length, set, length-append}
-use lib.Ieee.{Float}
+use lib.ListN.{length, set}
 use borrow.Author.Tests.{le-leb}
-use Rattle.model.specs.Bytes.{placed}
 use Rattle.model.specs.Framing.{Side}
-use Rattle.model.specs.Replay.{decimal, line, rest, side_letter, refused_line}
+use Rattle.model.specs.Replay.{decimal, line, side_letter}
 use Rattle.model.specs.Summary.{play_summary, row_summary, answer_summary}
 use Rattle.model.proofs.ListLaws.{placed_length}
 use Rattle.text.specs.declared.Put.{Put}
 use Rattle.text.proofs.FittedLaws.{Fitted, fitted_behind}
 use Rattle.text.proofs.WrittenLaws.{none_placed}
-use Rattle.lines.specs.Lines.{spaced, head, Piece}
+use Rattle.lines.specs.Lines.{head, Piece}
 use Rattle.lines.proofs.WordLaws.{rest_is_spaced}
 use Rattle.lines.proofs.Pieces.{byte_fitted, refused_line_is}
-use Rattle.receiver_state.specs.declared.Answer.{Answer}
 use Rattle.receiver_state.specs.declared.Answer.TheVariants.{Refused, Accepted, Played, NoRow, Row}
-use Rattle.receiver_state.specs.View.{answer_of}
 use Rattle.replaying.specs.Printing.{length_put}
 use Rattle.playback_parts.specs.Parts.{TextPut}
 use Rattle.playback_parts.proofs.Texts.{piece_put}

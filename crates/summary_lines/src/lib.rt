@@ -1,4 +1,6 @@
 // The lines of a summary, as pieces of text at the front of lent bytes.
+#![tactic(auto)]
+
 ghost use Rattle.std.specs.Prelude.{[], ◌∷◌, map, ◌+◌, ◌*◌, ◌≤◌, length};
 ghost use Rattle.model.specs.Replay.{decimal, line, side_letter};
 ghost use Rattle.calls.specs.Views.{model_side};

@@ -1,4 +1,6 @@
 // Writes tapes, reads them back, and checks damaged ones: a line for each vector, with what was found and what was expected.
+#![tactic(auto)]
+
 mod back;
 mod damage;
 mod report;

@@ -3,7 +3,6 @@ use Rattle.std.specs.Prelude.{◌≡◌, ℕ, ◌+◌, List, length}
 use Rattle.std.proofs.Math.Option.{Option, none, some, get_or}
 use Rattle.model.specs.Bytes.{written_into}
 use Rattle.text.specs.declared.Put.{Put}
-use Rattle.text.specs.declared.Put.TheVariants as Put
 
 -- a place behind what was written, or no room where nothing was written
 abbrev pub next_or_no_room : ℕ → Option (List ℕ) → Put

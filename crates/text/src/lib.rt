@@ -1,12 +1,14 @@
 // Numbers as text in lent bytes. Each public function writes from a place on and answers the place behind what it wrote.
 // It takes any target, any place and any number, and where the text does not fit it writes nothing.
+#![tactic(auto)]
+
 ghost use Rattle.std.specs.Prelude.{◌≡◌, ◌+◌, ◌<◌, [], ◌∷◌, length, nat_le};
 ghost use Rattle.model.specs.Replay.{decimal, signed_decimal, hex_digit, hex_digits};
 ghost use Rattle.text.specs.Digits.{digits_in, Base};
 ghost use Rattle.text.specs.Promises.{Written};
 
 // The place behind what was written. Where the target is too short, refusal 2: nothing is written.
-#[derive(Drop)]
+#[derive(Clone, Copy)]
 pub enum Put {
     Next(usize),
     NoRoom,

@@ -1,7 +1,11 @@
 // Writes numbers at the edges as text, and compares with bytes that were written down by hand.
 // Each number is written up to the end of 24 dots, so that it just fits, and then one place later, where it is one byte too long.
-use libc::STDOUT_FILENO;
+#![tactic(auto)]
+
 use text::{Put, put_byte, put_decimal, put_hex, put_signed};
+
+// A file descriptor.
+const STDOUT_FILENO: i32 = 1;
 
 const SIZE: usize = 24;
 

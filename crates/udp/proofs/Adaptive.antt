@@ -1,5 +1,5 @@
 -- The display after a row: it stays with adaptive off or with no finite value, else the estimates move toward the row's levels. Assumes nothing.
-use Rattle.std.proofs.Common.{◌≡◌, ℕ, ◌+◌, ◌-◌, ◌≤◌, true, false, eqb, List, ◌++◌, length, take, drop, sym, refl, ap, ◌∙◌, arith, length-drop, take-append-drop, length-take, length-take-le, take_all}
+use Rattle.std.proofs.Common.{◌≡◌, ℕ, ◌+◌, ◌-◌, ◌≤◌, true, false, eqb, List, ◌++◌, length, take, drop, ap, ◌∙◌, arith, length-drop, take-append-drop, length-take-le, take_all}
 use mathlib.Core.Option.{none, some}
 use lib.Seq.{take-append-le}
 use lib.Ieee.{Float}

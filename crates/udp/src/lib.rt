@@ -1,6 +1,8 @@
 // What a datagram does to a stream's counts, and what a completed row does to smoothing and to the display, as
 // rigflow-client/src/net/udp.rs has it. A state goes in by value and comes back; a row's values stand in a lent slice.
 // Every float of a row may be a NaN.
+#![tactic(auto)]
+
 ghost use Rattle.std.specs.Prelude.{◌≡◌, ◌+◌, ◌*◌, length, take, nat_le};
 ghost use Rattle.model.specs.Bytes.{part};
 ghost use Rattle.model.specs.Counts.{fresh_counts, counted};
@@ -28,14 +30,14 @@ const ADAPTIVE_MIN_RANGE_DB: f32 = 30.0;
 const ADAPTIVE_MAX_RANGE_DB: f32 = 100.0;
 
 // The last sequence of a stream, if there was one.
-#[derive(Drop)]
+#[derive(Clone, Copy)]
 pub enum LastSequence {
     Unknown,
     Known(u32),
 }
 
 // The sequence counts of one stream.
-#[derive(Drop)]
+#[derive(Clone, Copy)]
 pub struct StreamCounts {
     pub packets: u64,
     pub dropped: u64,
@@ -151,7 +153,7 @@ fn move_toward(rows: &mut [f32], bins: usize, smooth: usize, w: f32)
 }
 
 // Display settings and running estimates of a channel.
-#[derive(Drop)]
+#[derive(Clone, Copy)]
 pub struct Display {
     pub adaptive: bool,
     pub top: f32,

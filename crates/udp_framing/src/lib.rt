@@ -1,5 +1,7 @@
 // Framing of datagrams: the media header, the send time of an audio datagram, the time-sync packets, and the offset and
 // round trip that their times come to. All numbers are big-endian.
+#![tactic(auto)]
+
 pub mod big_endian;
 pub mod words;
 
@@ -44,7 +46,7 @@ pub const HEADER_LEN: usize = 16;
 pub const AUDIO_SEND_WALL_NS_LEN: usize = 8;
 
 // Bytes 0 and 1: magic; 2: version; 3: stream type; 4 to 7: sequence; 8 to 15: timestamp.
-#[derive(Drop)]
+#[derive(Clone, Copy)]
 pub struct MediaHeader {
     pub magic: u16,
     pub version: u8,
@@ -53,7 +55,7 @@ pub struct MediaHeader {
     pub timestamp: u64,
 }
 
-#[derive(Drop)]
+#[derive(Clone, Copy)]
 pub enum ParsedHeader {
     Header(MediaHeader),
     // Under 16 bytes.
@@ -105,7 +107,7 @@ pub fn audio_samples_offset(version: u8) -> usize
     }
 }
 
-#[derive(Drop)]
+#[derive(Clone, Copy)]
 pub enum SendWall {
     // Nanoseconds of the server's clock.
     Ns(u64),
@@ -138,7 +140,7 @@ fn push_header(target: &mut [u8], stream_type: u8, sequence: u32, timestamp: u64
     write_u64(target, 8, timestamp);
 }
 
-#[derive(Drop)]
+#[derive(Clone, Copy)]
 pub enum Built {
     // The number of bytes, at the front of the target.
     Written(usize),
@@ -158,7 +160,7 @@ pub fn build_time_sync_request(target: &mut [u8], probe_id: u32, t1_ns: u64) -> 
     Built::Written(24)
 }
 
-#[derive(Drop)]
+#[derive(Clone, Copy)]
 pub enum TimeSyncRequest {
     Numbers { probe_id: u32, t1_ns: u64 },
     // Refusal 10: another type, or under 24 bytes.
@@ -205,7 +207,7 @@ pub fn build_time_sync_response(
     Built::Written(40)
 }
 
-#[derive(Drop)]
+#[derive(Clone, Copy)]
 pub enum TimeSyncResponse {
     Numbers {
         probe_id: u32,
@@ -242,7 +244,7 @@ pub fn parse_time_sync_response(packet: &[u8]) -> TimeSyncResponse
 }
 
 // Nanoseconds: the server's clock less the client's, and the network's share of a probe's time.
-#[derive(Drop)]
+#[derive(Clone, Copy)]
 pub struct OffsetRtt {
     pub offset: i64,
     pub rtt: i64,

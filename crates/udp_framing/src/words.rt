@@ -7,14 +7,14 @@ ghost use Rattle.udp_framing.specs.Promises.{Added, Subtracted};
 use std::num::{wrapping_add_u64, wrapping_sub_u64};
 
 // carry · 2^64 + low.
-#[derive(Drop)]
+#[derive(Clone, Copy)]
 pub struct Sum {
     pub carry: u64,
     pub low: u64,
 }
 
 // low - borrow · 2^64.
-#[derive(Drop)]
+#[derive(Clone, Copy)]
 pub struct Difference {
     pub borrow: u64,
     pub low: u64,

@@ -1,5 +1,7 @@
 // udp_framing for callers in other languages: numbers go as themselves, and a value of several numbers into a slice
 // that the caller lends. What the slice has no room for is left out.
+#![tactic(auto)]
+
 ghost use Rattle.std.specs.Prelude.{◌≡◌};
 ghost use Rattle.model.specs.Framing.{parse_header, valid_header, audio_start, audio_send_time, build_request, build_response, parse_request, parse_response};
 ghost use Rattle.model.specs.Clock.{probe_offset, probe_round_trip};

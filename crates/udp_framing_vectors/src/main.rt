@@ -2,6 +2,8 @@
 //
 // What is expected stands in the source. The times 10, 5, 5, 11 and 0, 2^64 - 1, 2^64 - 1, 1 are worked examples of
 // the rules; the other values were written down from a run of the original.
+#![tactic(auto)]
+
 mod clock;
 mod headers;
 mod packets;

@@ -2,7 +2,7 @@
 use crate::print::{number, text};
 use std::num::wrapping_add_u64;
 
-#[derive(Drop)]
+#[derive(Clone, Copy)]
 pub struct Tally {
     pub run: u64,
     pub equal: u64,

@@ -1,9 +1,8 @@
 -- What a waterfall payload leaves, from what its chunk and the row that it completed leave. Assumes nothing.
-use mathlib.Core.Path.{◌≡◌, refl, sym, ◌∙◌, ap, subst}
+use mathlib.Core.Path.{◌≡◌, refl, sym, ◌∙◌, subst}
 use mathlib.Core.Bool.{true, and-eq-true_iff}
-use mathlib.Core.Option.{some}
 use mathlib.Core.List.{List, ◌++◌}
-use Prim.Native.Nat.{ℕ, ◌+◌, ◌-◌, ◌*◌, ◌≤◌, ◌<◌}
+use Prim.Native.Nat.{ℕ, ◌+◌, ◌-◌, ◌*◌, ◌≤◌}
 use native.Mathlib.Nat.{zero-add}
 use native.Mathlib.Omega.{arith}
 use lib.ListN.{length, take, drop, length-append, length-drop, length-take}
@@ -12,11 +11,8 @@ use lib.Dec.{leb, ltb}
 use lib.Ieee.{Float, nan}
 use borrow.Author.Tests.{leb-true, ltb-true, le-leb}
 use Rattle.model.specs.Bytes.{part, placed}
-use Rattle.model.specs.JitterBuffer.{Buffer}
 use Rattle.model.specs.Row.{chunk_total, push_chunk}
-use Rattle.model.specs.Receiver.{Channel, row}
 use Rattle.model.specs.Questions.{total_allowed}
-use Rattle.model.specs.Step.{ChannelResult, shown_row, waterfall_into}
 use Rattle.model.proofs.BoolLaws.{first_of_both}
 use Rattle.model.proofs.ListLaws.{alike_shorter}
 use Rattle.areas.proofs.Placed.{part_behind}
@@ -29,9 +25,9 @@ use Rattle.reassembler.specs.declared.CompletedRow.TheVariants as Completed
 use Rattle.reassembler.specs.declared.Pushed.{Pushed}
 use Rattle.udp_packets.specs.declared.Screen.{Screen}
 use Rattle.reassembler.specs.Requires.{RowKept, PushFits}
-use Rattle.reassembler.specs.Rows.{row_of, completed_of, CompletedInside, PushedAs}
-use Rattle.udp_packets.specs.Packets.{row_asked, screen_asked, channel_of, ScreenReady, RowShown, WaterfallHandled}
-use Rattle.udp_packets.proofs.Screens.{asked_kept, asked_lengths, screen_still_asked, none_completed, one_completed}
+use Rattle.reassembler.specs.Rows.{row_of, CompletedInside, PushedAs}
+use Rattle.udp_packets.specs.Packets.{row_asked, screen_asked, ScreenReady, RowShown, WaterfallHandled}
+use Rattle.udp_packets.proofs.Screens.{asked_lengths, screen_still_asked, none_completed, one_completed}
 
 -- ---- before
 

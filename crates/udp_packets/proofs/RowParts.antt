@@ -1,5 +1,5 @@
 -- The parts of a list that begins with a row, while a row is shown: the spectrum is placed from b on, what lies behind `work` is used freely, then smoothing is placed from 2 × b on. Assumes nothing.
-use mathlib.Core.Path.{◌≡◌, refl, sym, ◌∙◌, ap}
+use mathlib.Core.Path.{◌≡◌, sym, ◌∙◌, ap}
 use mathlib.Core.List.{List}
 use Prim.Native.Nat.{ℕ, ◌+◌, ◌-◌, ◌*◌, ◌≤◌}
 use native.Mathlib.Nat.{add-zero}
@@ -7,7 +7,7 @@ use native.Mathlib.Omega.{arith}
 use lib.ListN.{length, take}
 use lib.Seq.{take_all}
 use Rattle.model.specs.Bytes.{part, placed}
-use Rattle.model.proofs.ListLaws.{alike_shorter, alike_behind, placed_length}
+use Rattle.model.proofs.ListLaws.{alike_shorter, alike_behind}
 use Rattle.areas.proofs.Placed.{part_before, part_behind, part_within}
 
 -- the part that was placed

@@ -1,19 +1,18 @@
 -- A channel in lent memory takes the model's step: a row that is shown, and a chunk that completes none or one. Assumes nothing.
 use mathlib.Core.Path.{◌≡◌, refl, sym, ◌∙◌, ap, subst}
-use mathlib.Core.Bool.{Bool, true, false, ◌&&◌, beq, and-eq-true_iff}
+use mathlib.Core.Bool.{Bool, true, false, beq, and-eq-true_iff}
 use mathlib.Core.Option.{Option, none, some}
 use mathlib.Core.List.{List}
-use Prim.Native.Nat.{ℕ, ◌+◌, ◌-◌, ◌*◌, ◌≤◌, ◌<◌}
+use Prim.Native.Nat.{ℕ, ◌*◌, ◌≤◌}
 use native.Mathlib.Omega.{arith}
 use lib.ListN.{length, take}
 use lib.Seq.{length-take-le}
 use lib.Dec.{leb, ltb}
 use lib.Ieee.{Float}
-use borrow.Author.Tests.{leb-true, ltb-true, le-leb}
-use Rattle.model.specs.Bytes.{part, placed}
-use Rattle.model.specs.Sizes as Model
+use borrow.Author.Tests.{leb-true, ltb-true}
+use Rattle.model.specs.Bytes.{part}
 use Rattle.model.specs.JitterBuffer.{Buffer}
-use Rattle.model.specs.Row.{Row, RowResult, chunk_total, push_chunk}
+use Rattle.model.specs.Row.{Row, RowResult, push_chunk}
 use Rattle.model.specs.Scaling.{display_after, shown_top, shown_range, spectrum_after, smoothing_after}
 use Rattle.model.specs.Picture.{picture_after}
 use Rattle.model.specs.Receiver.{row}
@@ -21,17 +20,15 @@ use Rattle.model.specs.Questions.{row_held, total_allowed}
 use Rattle.model.specs.Step.{shown_row, chunk_result, waterfall_into}
 use Rattle.model.proofs.BoolLaws.{both_and, first_of_both, second_of_both}
 use Rattle.model.proofs.ListLaws.{alike_shorter}
-use Rattle.model.proofs.RowLaws.{RowKept, OpenRowKept, push_chunk_keeps, row_kept_held}
+use Rattle.model.proofs.RowLaws.{RowKept, push_chunk_keeps, row_kept_held}
 use Rattle.calls.specs.declared.Sizes.{Sizes}
 use Rattle.calls.specs.Views.{sizes_of}
 use Rattle.udp.specs.declared.Display.{Display}
-use Rattle.reassembler.specs.declared.OpenRow.{OpenRow}
 use Rattle.reassembler.specs.declared.WaterfallReassembler.{WaterfallReassembler}
 use Rattle.reassembler.specs.declared.WaterfallReassembler.TheVariants as State
 use Rattle.reassembler.specs.declared.CompletedRow.TheVariants as Completed
 use Rattle.reassembler.specs.declared.Pushed.{Pushed}
 use Rattle.udp_packets.specs.declared.Screen.{Screen}
-use Rattle.reassembler.specs.Requires as Requires
 use Rattle.reassembler.specs.Rows.{open_of, row_of, completed_of, PushedAs}
 use Rattle.udp.specs.Views.{display_of}
 use Rattle.udp_packets.specs.Packets.{row_asked, screen_asked, channel_of}

@@ -1,5 +1,7 @@
 // What a datagram's payload does to a channel, as rigflow-client/src/net/udp.rs has it: samples go to the jitter buffer;
 // a chunk goes to the row, and a row that it completes to the spectrum, to the estimates, to smoothing and to the picture.
+#![tactic(auto)]
+
 ghost use Rattle.std.specs.Prelude.{◌≡◌, true, length, ◌≤◌};
 ghost use Rattle.model.specs.Samples.{holds_samples};
 ghost use Rattle.model.specs.Questions.{total_allowed};
@@ -43,7 +45,7 @@ pub fn handle_audio_packet(
 
 // What a channel shows, but for the values, which stand in lent memory: the row that chunks are stored in, how many bins of
 // the spectrum and of smoothing are in use, and the display.
-#[derive(Drop)]
+#[derive(Clone, Copy)]
 pub struct Screen {
     pub row: WaterfallReassembler,
     pub spectrum_len: usize,
@@ -52,7 +54,7 @@ pub struct Screen {
 }
 
 // What a waterfall payload leaves, and the bins of the row that it completed, if it did.
-#[derive(Drop)]
+#[derive(Clone, Copy)]
 pub struct Handled {
     pub screen: Screen,
     pub completed: CompletedRow,

@@ -4,14 +4,14 @@ ghost use Rattle.std.specs.Prelude.{◌≤◌};
 use crate::words::word;
 use udp::{Display, StreamCounts};
 
-#[derive(Drop)]
+#[derive(Clone, Copy)]
 pub struct Difference {
     pub word: usize,
     pub found: u32,
     pub expected: u32,
 }
 
-#[derive(Drop)]
+#[derive(Clone, Copy)]
 pub enum Verdict {
     Same,
     Differs(Difference),

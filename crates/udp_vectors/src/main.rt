@@ -1,6 +1,8 @@
 // Runs the sessions on standard input on a receiver, first all on its channel A and then all on B, each with what the
 // original showed in it, and prints a line for each: ok, or its first difference. The input says what its lines mean;
 // oracle/udp_sessions.sh prints it anew.
+#![tactic(auto)]
+
 mod compare;
 mod datagram;
 mod look;
@@ -15,10 +17,12 @@ use crate::report::Progress;
 use crate::session::Session;
 use crate::words::word;
 use calls::Side;
-use libc::STDIN_FILENO;
+
+// A file descriptor.
+const STDIN_FILENO: i32 = 0;
 
 // What a line leaves.
-#[derive(Drop)]
+#[derive(Clone, Copy)]
 struct Turn {
     session: Session,
     progress: Progress,

@@ -1,10 +1,12 @@
 // A line of output for each session, and how many there were.
 use crate::compare::{Difference, Verdict};
 use calls::Side;
-use libc::STDOUT_FILENO;
 use std::num::wrapping_add_u64;
 
-#[derive(Drop)]
+// A file descriptor.
+const STDOUT_FILENO: i32 = 1;
+
+#[derive(Clone, Copy)]
 pub struct Progress {
     // of the input
     pub line: u64,

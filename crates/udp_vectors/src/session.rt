@@ -21,7 +21,7 @@ const ROW: u32 = 65536;
 // No session plays, and no line expects this.
 const PLAYED: u32 = 0;
 
-#[derive(Drop)]
+#[derive(Clone, Copy)]
 pub struct Session {
     pub side: Side,
     pub receiver: Receiver,

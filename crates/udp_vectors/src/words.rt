@@ -22,7 +22,7 @@ fn digit(b: u8) -> u32
 }
 
 // A number, and the place behind its digits.
-#[derive(Drop)]
+#[derive(Clone, Copy)]
 struct Number {
     value: u32,
     next: usize,

@@ -1,6 +1,6 @@
 -- How far x columns of `width` reach into the bins: x × bins = bin × width + rest, with a rest below width. So the bin of column x is the quotient, which
 -- goes on by adding the quotient and the rest of one column. Assumes nothing.
-use mathlib.Core.Path.{◌≡◌, refl, sym, ap, ◌∙◌, subst}
+use mathlib.Core.Path.{◌≡◌, sym, ap, ◌∙◌, subst}
 use Prim.Native.Nat.{ℕ, ◌+◌, ◌*◌, ◌/◌, ◌%◌, ◌≤◌, ◌<◌}
 use native.Mathlib.Nat.{suc-mul, mul_comm, mul-lt-mul_of_pos_right, lt_of_mul-lt-mul_right, lt_of_le_of_lt, le-add_right, div-add-mod', zero-mul}
 use native.Mathlib.Numerals.{add-one}

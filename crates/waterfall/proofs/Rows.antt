@@ -1,15 +1,15 @@
 -- The window of a row that is not empty, the rows of a picture, and a row drawn over them. Assumes nothing.
-use mathlib.Core.Path.{◌≡◌, refl, sym, ◌∙◌, ap, subst}
-use mathlib.Core.List.{List, ◌++◌, map}
-use Prim.Native.Nat.{ℕ, zero, suc, ◌+◌, ◌-◌, ◌*◌, ◌/◌, ◌≤◌, ◌<◌, min, max}
+use mathlib.Core.Path.{◌≡◌, sym, ◌∙◌, subst}
+use mathlib.Core.List.{List}
+use Prim.Native.Nat.{ℕ, zero, suc, ◌+◌, ◌-◌, ◌*◌, ◌/◌, ◌≤◌, ◌<◌, min}
 use native.Mathlib.Omega.{arith}
 use native.Mathlib.Nat.{mul-le-mul, mul_comm, mul-lt-mul_of_pos_right, div-lt_iff_lt-mul}
-use lib.ListN.{length, take, drop, get_or, length-drop}
+use lib.ListN.{length, take, drop, length-drop}
 use lib.Seq.{length-take-le, get_or-take, get_or-drop}
 use lib.Ieee.{Float}
 use Rattle.model.specs.Bytes.{part, placed}
 use Rattle.model.specs.Floats.{◌-f◌, maxf, f0, f1}
-use Rattle.model.specs.Picture.{db_to_u8, visible_bins, window_start, window_end, bin_at, pixel, count_from, drawn_row, picture_after}
+use Rattle.model.specs.Picture.{db_to_u8, visible_bins, window_start, window_end, bin_at, pixel, drawn_row, picture_after}
 use Rattle.spectrum_utils.specs.Levels.{level_above}
 use Rattle.waterfall.specs.Shown.{column_color, shown}
 use Rattle.waterfall.proofs.Drawn.{drawn, drawn_length, drawn_over}

@@ -1,4 +1,6 @@
 // Draws rows of a waterfall picture, as rigflow-client/src/ui/waterfall.rs does.
+#![tactic(auto)]
+
 ghost use Rattle.std.specs.Prelude.{◌≡◌, ◌+◌, ◌*◌, ◌<◌, map, length};
 ghost use Rattle.model.specs.Bytes.{placed};
 ghost use Rattle.model.specs.Picture.{count_from, picture_after};
@@ -8,7 +10,7 @@ ghost use Rattle.waterfall.specs.Shown.{bin_color, column_color, shown};
 
 // How far the columns so far reach into the bins that show: so many bins, and a rest of so many parts of one, of which
 // a bin has as many as the picture has columns.
-#[derive(Drop)]
+#[derive(Clone, Copy)]
 struct Reach {
     bin: usize,
     rest: usize,
@@ -31,7 +33,7 @@ fn further(reach: Reach, by: Reach, width: usize) -> Reach
 }
 
 // What shows: a bin, and its colour.
-#[derive(Drop)]
+#[derive(Clone, Copy)]
 struct Shown {
     bin: usize,
     color: u32,

@@ -1,0 +1,12 @@
+-- `areas::move_up_u32` meets its contract. The loop's invariant: the elements from the place `left` on are written. Assumes nothing.
+use mathlib.Core.Path.{◌≡◌}
+use Prim.Native.Nat.{◌+◌, ◌-◌, ◌≤◌}
+use lib.ListN.{length}
+use Rattle.areas.specs.Parts.{moved}
+use Rattle.areas.proofs.move_up_u32.Given as goal
+
+abbrev pub invariant-loop-left : goal.invariant-loop-left
+invariant-loop-left l = (l.left ≤ l.n) × (l.us ≡ moved (l.from + l.left) (l.to + l.left) (l.n - l.left) l.initial.us) × (length l.us ≡ length l.initial.us)
+
+abbrev pub decreases-loop-left : goal.decreases-loop-left
+decreases-loop-left l = l.left

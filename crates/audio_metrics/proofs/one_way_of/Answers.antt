@@ -1,0 +1,12 @@
+-- `audio_metrics::one_way_of` meets its contract: the two wrapping steps keep the low 64 bits. Assumes nothing.
+use Rattle.std.proofs.Common.{◌∙◌, w64}
+use mir.ValLaws.{to_z-of_z}
+use Rattle.audio_metrics.proofs.DelayWords.{one_way_of_words}
+use Rattle.audio_metrics.proofs.one_way_of.Goals as goal
+
+pub returns : goal.returns
+returns c = let e = to_z-of_z w64 c.args.offset c.ranges.offset in
+    to_z-of_z w64 c.as_signed.result (record { sfits = c.as_signed.type_inv })
+    ∙ c.as_signed.ensures
+    ∙ rw (c.wrapping_add_u64.ensures.value, c.as_bits.ensures, e)
+    (one_way_of_words c.args.recv c.args.send c.wrapping_sub_u64-delay.result c.ranges.recv.fits c.wrapping_sub_u64-delay.ensures.value c.args.offset c.ranges.offset)

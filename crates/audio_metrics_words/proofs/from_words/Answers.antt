@@ -1,0 +1,7 @@
+-- `audio_metrics_words::from_words` meets its contract: each part as its function ensures. Assumes nothing.
+use Rattle.audio_metrics_words.specs.Words.{clock_in}
+use Rattle.audio_metrics_words.proofs.from_words.Goals as goal
+
+pub returns : goal.returns
+unfolding clock_in
+returns c = rw (c.timing_from-timing.ensures, c.one_way_from-one_way.ensures, c.jitter_from-jitter.ensures, c.float_from.ensures)

@@ -1,0 +1,17 @@
+-- `audio_metrics_words::one_way_words` meets its contract: by cases. Assumes nothing.
+use mir.Syntax.{w64}
+use mir.Val.{SFits}
+use mir.ValLaws.{to_z-of_z}
+use Rattle.audio_metrics_words.specs.Words.{delay_words}
+use borrow.Author.Rules.{rules}
+use Rattle.audio_metrics_words.proofs.one_way_words.Goals as goal
+
+pub returns-in_default : goal.returns-in_default
+unfolding delay_words
+returns-in_default c = rw c.in_default.is
+
+pub returns : goal.returns
+unfolding delay_words
+returns c = let fit : SFits w64 c.in-Known.n = search rules in
+    let bits = rw (to_z-of_z w64 _ fit) at c.as_bits.ensures in
+    rw (c.in-Known.is, bits)

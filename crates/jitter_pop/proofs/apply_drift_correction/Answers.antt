@@ -1,0 +1,13 @@
+-- `jitter_pop::apply_drift_correction` meets its contract: its tests are those of `too_long`. Assumes nothing.
+use mathlib.Core.Path.{◌∙◌}
+use Rattle.jitter_pop.proofs.Plays.{drop_none_short, drop_none_little, drop_some}
+use Rattle.jitter_pop.proofs.apply_drift_correction.Goals as goal
+
+pub returns-then-queued-z : goal.returns-then-queued-z
+returns-then-queued-z c = drop_none_short _ _ c.if-queued-z.true
+
+pub returns-then-excess-z : goal.returns-then-excess-z
+returns-then-excess-z c = drop_none_little _ _ c.if-excess-z.true
+
+pub returns : goal.returns
+returns c = c.least.ensures ∙ drop_some c.args.z c.args.queued c.if-queued-z.false c.if-excess-z.false

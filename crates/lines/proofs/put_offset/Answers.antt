@@ -1,0 +1,19 @@
+-- `lines::put_offset` meets its contract. Assumes nothing.
+use native.Mathlib.Omega.{arith}
+use mir.Syntax.{w64}
+use mir.Val.{SFits}
+use mir.ValLaws.{to_z-of_z}
+use Rattle.lines.proofs.WordLaws.{signed_few}
+use Rattle.model.specs.Replay.{or_dash}
+use borrow.Author.Rules.{rules}
+use Rattle.lines.proofs.put_offset.Goals as goal
+
+pub returns-in-Unknown : goal.returns-in-Unknown
+unfolding or_dash
+returns-in-Unknown c = rw c.in-Unknown.is (c.put_dash.ensures, omega (arith, c.put_dash.ensures.place))
+
+pub returns-in-Known : goal.returns-in-Known
+unfolding or_dash
+returns-in-Known c = let fits : SFits w64 c.in-Known.t.offset_ns = search rules in
+    let told = rw (to_z-of_z w64 c.in-Known.t.offset_ns fits) at c.put_signed.ensures in
+    rw c.in-Known.is (told, omega (arith, told.place, signed_few c.in-Known.t.offset_ns fits))

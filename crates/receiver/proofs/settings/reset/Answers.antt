@@ -1,0 +1,15 @@
+-- `receiver::settings::reset` meets its contract: questions 1 to 4, and then the call. Assumes nothing.
+use Rattle.model.specs.Receiver.{reset}
+use Rattle.calls.specs.Views.{model_side}
+use Rattle.receiver_state.proofs.CallLaws.{early_refused}
+use Rattle.receiver.proofs.settings.reset.Goals as goal
+
+pub cleared-requires : goal.cleared-requires
+cleared-requires c = c.asked-verdict.ensures.ready c.in-Yes.is
+
+pub returns-in-No : goal.returns-in-No
+returns-in-No c = let g = c.args in
+    rw c.refusal.ensures (early_refused g.r g.fs.now g.us.now (reset (model_side g.side)) _ tt (rw c.in-No.is at c.asked-verdict.ensures.asked))
+
+pub returns-in-Yes : goal.returns-in-Yes
+returns-in-Yes c = c.cleared.ensures

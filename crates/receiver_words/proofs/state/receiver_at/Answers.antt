@@ -1,0 +1,18 @@
+-- `receiver_words::state::receiver_at` meets its contract: each part is its words. Assumes nothing.
+use native.Mathlib.Omega.{arith}
+use Rattle.receiver_words.specs.State.{receiver_at}
+use Rattle.receiver_words.proofs.ClockBack.{clock_read}
+use Rattle.numbers.proofs.Stored.{rest_is}
+use Rattle.receiver_words.proofs.state.receiver_at.Goals as goal
+
+pub bounds-w-6 : goal.bounds-w-6
+bounds-w-6 c = omega (arith, c.requires)
+
+pub bounds-w-7 : goal.bounds-w-7
+bounds-w-7 c = omega (arith, c.requires)
+
+pub returns : goal.returns
+unfolding receiver_at
+returns c = let w = c.args.w.now in
+    let clock = clock_read c.clock_from-clock.result c.clock_from-clock.ensures in
+    rw (c.sizes_from-sizes.ensures, c.counts_from-audio.ensures, c.counts_from-waterfall.ensures, c.channel_from-a.ensures, c.channel_from-b.ensures, clock, rest_is w 8, rest_is w 13, rest_is w 18, rest_is w 47, rest_is w 76)

@@ -1,0 +1,5 @@
+-- `receiver_words::words::buffer_from` meets its contract: each field is its word. Assumes nothing.
+use Rattle.receiver_words.proofs.words.buffer_from.Goals as goal
+
+pub returns : goal.returns
+returns c = rw c.next_from-next.ensures

@@ -1,0 +1,15 @@
+-- `udp_framing::push_header` meets its contract: five numbers are written one behind the other, and they are the header. Assumes nothing.
+use Rattle.std.proofs.Common.{arith}
+use Rattle.model.specs.Framing.{magic_number}
+use Rattle.model.proofs.ByteParts.{number_first, number_next}
+use Rattle.udp_framing.proofs.Building.{header_of_fields}
+use Rattle.udp_framing.proofs.push_header.Goals as goal
+
+pub returns : goal.returns
+returns c = let g = c.args in
+    let front2 = number_first 2 magic_number c.write_u16.ensures in
+    let front3 = number_next 1 2 front2 (omega arith) c.write_u8.ensures in
+    let front4 = number_next 1 g.stream_type front3 (omega arith) c.write_u8-2.ensures in
+    let front8 = number_next 4 g.sequence front4 (omega arith) c.write_u32.ensures in
+    let front16 = number_next 8 g.timestamp front8 (omega arith) c.write_u64.ensures in
+    rw (← header_of_fields g.stream_type g.sequence g.timestamp (omega arith)) front16.bytes
