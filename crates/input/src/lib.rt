@@ -1,10 +1,12 @@
-// Bytes from standard input.
+// Bytes from an input, as standard input.
+#![tactic(auto)]
+
 ghost use Rattle.std.specs.Prelude.{false, ◌≡◌, ◌≤◌, ◌<◌, length};
 
-use libc::STDIN_FILENO;
+use std::io;
 
 // How many bytes are there, whether the input has ended, and whether a read failed.
-#[derive(Drop)]
+#[derive(Clone, Copy)]
 pub struct Read {
     pub bytes: usize,
     pub ended: bool,
@@ -18,18 +20,24 @@ fn least(a: usize, b: usize) -> usize
 }
 
 // One read behind the bytes that are there.
-fn read_more(bytes: &mut [u8], from: usize) -> Read
+fn read_more<R: io::Read>(reader: &mut R, bytes: &mut [u8], from: usize) -> Read
     requires { from ≤ length bytes.old }
     ensures { (result.bytes ≤ length bytes.old) × (result.ended ≡ false → from < result.bytes) }
 {
     let most = bytes.len() - from;
-    let got = libc::read(STDIN_FILENO, &mut bytes[from..]);
-    let n = least(io::count(got, bytes), most);
+    let Ok(got) = reader.read(&mut bytes[from..]) else {
+        return Read {
+            bytes: from,
+            ended: true,
+            failed: true,
+        };
+    };
+    let n = least(got, most);
     if n == 0 {
         return Read {
             bytes: from,
             ended: true,
-            failed: got < 0,
+            failed: false,
         };
     }
     Read {
@@ -40,12 +48,12 @@ fn read_more(bytes: &mut [u8], from: usize) -> Read
 }
 
 // Reads until the input ends, a read fails or the bytes are full.
-pub fn read_all(bytes: &mut [u8]) -> Read
+pub fn read_all<R: io::Read>(reader: &mut R, bytes: &mut [u8]) -> Read
     ensures { result.bytes ≤ length bytes.old }
 {
     let mut at = 0;
     while at < bytes.len() {
-        let read = read_more(bytes, at);
+        let read = read_more(reader, bytes, at);
         if read.ended {
             return read;
         }

@@ -1,8 +1,10 @@
 // Replays the tape in a file of any length, at every setup that document 01 allows, and prints what was heard.
 //   play [--summary] FILE
 // The file is read twice, by windows: its tape is checked first, then it is replayed. What came of it stands on descriptor 3
-// too, where that is open, as one word: over, refused or failed. The areas take 139 MB of the stack; a tape that is
+// too, where that is open, as one word: over, refused, failed or unwritten. The areas take 139 MB of the stack; a tape that is
 // refused takes half a megabyte.
+#![tactic(auto)]
+
 mod printing;
 mod saying;
 
@@ -10,6 +12,8 @@ ghost use Rattle.io.specs.Counts.{IsPrefixLen};
 
 use files::{File, Opened};
 use playback_parts::Form;
+use progress::Progress;
+use std::env::{Env, FillError};
 use tape::Setup;
 use tape_files::Verdict;
 
@@ -21,26 +25,44 @@ const FLOATS: usize = 868277;
 const WORDS: usize = 33816576;
 
 fn lend_samples(
-    file: File,
+    file: &File,
     setup: Setup,
     form: Form,
+    shown: Progress,
     window: &mut [u8],
     fs: &mut [f32; FLOATS],
     us: &mut [u32; WORDS],
 ) {
     let mut samples = [0.0f32; 65535];
     let mut text = [0u8; 65536];
-    printing::replay(file, setup, form, window, fs, us, &mut samples, &mut text);
+    printing::replay(
+        file,
+        setup,
+        form,
+        shown,
+        window,
+        fs,
+        us,
+        &mut samples,
+        &mut text,
+    );
 }
 
-fn lend_floats(file: File, setup: Setup, form: Form, window: &mut [u8], us: &mut [u32; WORDS]) {
+fn lend_floats(
+    file: &File,
+    setup: Setup,
+    form: Form,
+    shown: Progress,
+    window: &mut [u8],
+    us: &mut [u32; WORDS],
+) {
     let mut fs = [0.0f32; FLOATS];
-    lend_samples(file, setup, form, window, &mut fs, us);
+    lend_samples(file, setup, form, shown, window, &mut fs, us);
 }
 
-fn lend_words(file: File, setup: Setup, form: Form, window: &mut [u8]) {
+fn lend_words(file: &File, setup: Setup, form: Form, shown: Progress, window: &mut [u8]) {
     let mut us = [0u32; WORDS];
-    lend_floats(file, setup, form, window, &mut us);
+    lend_floats(file, setup, form, shown, window, &mut us);
 }
 
 fn same(a: &[u8], b: &[u8]) -> bool {
@@ -57,53 +79,68 @@ fn same(a: &[u8], b: &[u8]) -> bool {
     true
 }
 
+// How many arguments there are, the program's name among them.
+fn argument_count(rt: HostRuntime) -> usize {
+    let mut word = io::buffer();
+    for i in 0..usize::MAX {
+        if let Err(FillError::NotPresent) = rt.arg(i, &mut word) {
+            return i;
+        }
+    }
+    usize::MAX
+}
+
 // The argument that so many from the end begin with, at the front of the bytes.
-fn argument(left: usize, word: &mut [u8; 4096]) -> usize
+fn argument(rt: HostRuntime, left: usize, word: &mut [u8; 4096]) -> usize
     ensures { IsPrefixLen result word.new }
 {
-    let count = os::arg_count();
+    let count = argument_count(rt);
     if count < left {
         return 0;
     }
-    os::arg(count - left, word)
+    match rt.arg(count - left, word) {
+        Ok(n) => n,
+        Err(_) => 0,
+    }
 }
 
 // Takes the last so many arguments. (A function that calls itself takes no large memory into its own: so the areas are laid
 // out only where a replay begins.)
-fn take(left: usize, form: Form) {
+fn take(rt: HostRuntime, left: usize, form: Form) {
     if left == 0 {
         saying::usage();
         return;
     }
     let mut word = io::buffer();
-    let n = argument(left, &mut word);
+    let n = argument(rt, left, &mut word);
     if same(&word[..n], b"--summary") {
-        take(left - 1, Form::Summary);
+        take(rt, left - 1, Form::Summary);
         return;
     }
     if left != 1 {
         saying::usage();
         return;
     }
-    let opened = files::open(&word[..n]);
+    let opened = files::open(&rt, &word[..n]);
     let Opened::File(file) = opened else {
         saying::unreadable();
         return;
     };
     let mut window = [0u8; WINDOW];
-    let verdict = tape_files::check(file, &mut window);
+    let verdict = tape_files::check(&file, &mut window);
     let Verdict::Accepted(setup) = verdict else {
         printing::not_accepted(verdict);
         return;
     };
-    lend_words(file, setup, form, &mut window);
+    let shown = progress::begin(&rt.stdout(), &rt.stderr());
+    lend_words(&file, setup, form, shown, &mut window);
 }
 
-fn main() {
-    let count = os::arg_count();
+fn main(rt: HostRuntime) {
+    let count = argument_count(rt);
     if count == 0 {
         saying::usage();
         return;
     }
-    take(count - 1, Form::Full);
+    take(rt, count - 1, Form::Full);
 }

@@ -7,6 +7,7 @@ use playback_files::Ending;
 use playback_opening::Beginning;
 use playback_parts::Form;
 use playback_windows::refuse_in;
+use progress::Progress;
 use tape::Setup;
 use tape_files::Verdict;
 
@@ -47,16 +48,17 @@ pub fn not_accepted(verdict: Verdict) {
 
 // The replay of a tape that was accepted.
 pub fn replay(
-    file: File,
+    file: &File,
     setup: Setup,
     form: Form,
+    shown: Progress,
     window: &mut [u8],
     fs: &mut [f32],
     us: &mut [u32],
     samples: &mut [f32],
     text: &mut [u8],
 ) {
-    let ending = playback_files::replay(file, setup, form, window, fs, us, samples, text);
+    let ending = playback_files::replay(file, setup, form, shown, window, fs, us, samples, text);
     match ending {
         Ending::Over => saying::over(),
         Ending::Refused(n) => refused(text, n),

@@ -1,5 +1,10 @@
-// What is said of a replay: sentences on standard error, and on descriptor 3 one word of what came of it.
-use libc::{STDERR_FILENO, STDOUT_FILENO};
+// What is said of a replay: sentences on standard error, and on descriptor 3 one word of what came of it: over, refused, failed
+// or unwritten.
+
+// File descriptors.
+const STDERR_FILENO: i32 = 2;
+
+const STDOUT_FILENO: i32 = 1;
 
 const RESULT_FILENO: i32 = 3;
 
@@ -42,8 +47,13 @@ pub fn changed() {
     failed(b"play: the file changed while it was read\n");
 }
 
+// Not all could be written. Where descriptor 3 is read it is told there alone, since who reads it can ask whether the reader
+// of the output went away, of which nothing is said.
 pub fn unwritten() {
-    failed(b"play: standard output could not be written\n");
+    if io::write_all(RESULT_FILENO, b"unwritten\n") {
+        return;
+    }
+    say(b"play: standard output could not be written\n");
 }
 
 // Text to standard output, and whether it was written.

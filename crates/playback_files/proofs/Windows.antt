@@ -10,7 +10,6 @@ use borrow.Author.Tests.{ltb-false}
 use Rattle.model.proofs.BoolLaws.{clash}
 use Rattle.playback_parts.specs.declared.Form.{Form}
 use Rattle.playback_parts.specs.declared.Doing.{Doing}
-use Rattle.playback_parts.specs.declared.Doing.TheVariants as Doing
 use Rattle.playback_parts.specs.declared.Playback.{Playback}
 use Rattle.playback.specs.Chains.{Moment}
 use Rattle.playback_pieces.specs.declared.Gathered.{Gathered}
@@ -20,11 +19,10 @@ use Rattle.playback_windows.specs.Pieces.{moment_from_start, PiecesIn}
 use Rattle.playback_windows.proofs.ToTheEnd.{steps_behind}
 use Rattle.playback_files.specs.declared.Playing.{Playing}
 use Rattle.playback_files.specs.declared.Went.{Went}
-use Rattle.playback_files.specs.declared.Went.TheVariants as Went
 use Rattle.playback_files.specs.declared.Reached.{Reached}
-use Rattle.playback_files.specs.declared.Reached.TheVariants as Reached
 use Rattle.playback_files.specs.declared.Through.{Through}
-use Rattle.playback_files.specs.Windows.{ReachedBy, NextBehind, ThroughIn, FewerSteps, StepsOn, SameReplay, Led, StepsTo}
+use Rattle.playback_files.specs.declared.Ending.{Ending}
+use Rattle.playback_files.specs.Windows.{ReachedBy, NextBehind, ThroughIn, FewerSteps, StepsOn, SameReplay, OverWhereDone, EndsBegun, WentBegun, Led, StepsTo}
 
 -- a call that does not come before a place stands there or behind it
 call_behind : (d : Doing) (place until : ℕ) → call_before d place until ≡ false → until ≤ place
@@ -76,6 +74,20 @@ steps_lead_on form window last p t m (Went.Further q) fs us samples steps same =
     let there : Playback → Type 0 = λ w. Led form whole (moment_from_start p.base m) (record { playback = w; floats = fs; words = us; samples = samples }) in
     subst there (sym same) (steps whole win)
 steps_lead_on form window last p t m (Went.Ended e) fs us samples steps same = λ whole win. record { playback = playback_from_start p.base t.playback; led = steps whole win; over = same }
+
+-- one that ends so has begun
+pub ends_begun : (e : Ending) (d : Doing) → OverWhereDone e d → EndsBegun e
+ends_begun Ending.Over d over = tt
+ends_begun (Ending.Refused n) d over = over
+ends_begun Ending.NoRoom d over = over
+ends_begun Ending.Unwritten d over = tt
+ends_begun Ending.Unreadable d over = tt
+ends_begun Ending.Shorter d over = tt
+ends_begun Ending.Changed d over = tt
+
+pub went_begun : (p : Playing) (t : Through) (r : Went) → SameReplay p t r → WentBegun r
+went_begun p t (Went.Further q) same = tt
+went_begun p t (Went.Ended e) same = ends_begun e t.playback.doing same
 
 -- the next window begins further on, inside the file
 pub window_goes_further : (window : List ℕ) (all base : ℕ) (last : Bool) (w : Playback) (r : Through)

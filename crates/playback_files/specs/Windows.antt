@@ -6,7 +6,6 @@ use Rattle.tape_files.specs.Readings.{KnownOf}
 use Rattle.tape_windows.specs.Windows.{WindowOf, longest_call, EndsBefore}
 use Rattle.playback_parts.specs.declared.Form.{Form}
 use Rattle.playback_parts.specs.declared.Doing.{Doing}
-use Rattle.playback_parts.specs.declared.Doing.TheVariants as Doing
 use Rattle.playback_parts.specs.declared.Playback.{Playback}
 use Rattle.playback.specs.Steps.{steps_left}
 use Rattle.playback.specs.Chains.{Moment}
@@ -16,15 +15,11 @@ use Rattle.playback_windows.specs.Promises.{playback_from_start, BegunIn}
 use Rattle.playback_windows.specs.Through.{StepsBy}
 use Rattle.playback_windows.specs.Pieces.{moment_from_start}
 use Rattle.playback_pieces.specs.declared.Stop.{Stop}
-use Rattle.playback_pieces.specs.declared.Stop.TheVariants as Stop
 use Rattle.playback_files.specs.declared.Reached.{Reached}
-use Rattle.playback_files.specs.declared.Reached.TheVariants as Reached
 use Rattle.playback_files.specs.declared.Through.{Through}
 use Rattle.playback_files.specs.declared.Ending.{Ending}
-use Rattle.playback_files.specs.declared.Ending.TheVariants as Ending
 use Rattle.playback_files.specs.declared.Playing.{Playing}
 use Rattle.playback_files.specs.declared.Went.{Went}
-use Rattle.playback_files.specs.declared.Went.TheVariants as Went
 
 -- a full text goes on only where something stood in it, and the next window is asked for only where the pieces stopped before its call
 abbrev pub ReachedBy : Stop → ℕ → Reached → Type 0
@@ -81,6 +76,20 @@ OverWhereDone Ending.Changed doing = Unit {0}
 abbrev pub SameReplay : Playing → Through → Went → Type 0
 SameReplay p t (Went.Further q) = playback_from_start q.base q.playback ≡ playback_from_start p.base t.playback
 SameReplay p t (Went.Ended e) = OverWhereDone e t.playback.doing
+
+-- a replay that has begun ends as none does that has not
+abbrev pub EndsBegun : Ending → Type 0
+EndsBegun Ending.Over = Unit {0}
+EndsBegun (Ending.Refused n) = ⊥
+EndsBegun Ending.NoRoom = ⊥
+EndsBegun Ending.Unwritten = Unit {0}
+EndsBegun Ending.Unreadable = Unit {0}
+EndsBegun Ending.Shorter = Unit {0}
+EndsBegun Ending.Changed = Unit {0}
+
+abbrev pub WentBegun : Went → Type 0
+WentBegun (Went.Further q) = Unit {0}
+WentBegun (Went.Ended e) = EndsBegun e
 
 -- steps of the tape lead from one moment to another
 abbrev pub Led : Form → List ℕ → Moment → Moment → Type 0

@@ -1,12 +1,13 @@
 // The replay of the tape in a file of any length, by windows of the file, to standard output. What a read leaves in memory, and what a
 // write does, has no definition: what is promised is promised of every tape that the windows which were read are windows of, and of the pieces
 // that are written. No public function asks anything of its caller.
+#![tactic(auto)]
+
 ghost use Rattle.std.specs.Prelude.{false, ◌≡◌, ℕ, ◌+◌, ◌*◌, ◌≤◌, length};
 ghost use Rattle.playback_pieces.specs.Gathered.{moment};
-ghost use Rattle.playback_files.specs.Windows.{ReachedBy, ThroughIn, FewerSteps, StepsOn, Gone, OverWhereDone, SameReplay, StepsTo, NextStepsTo, AllStepsTo, Replayed};
+ghost use Rattle.playback_files.specs.Windows.{ReachedBy, ThroughIn, FewerSteps, StepsOn, Gone, OverWhereDone, SameReplay, StepsTo, NextStepsTo, AllStepsTo, EndsBegun, WentBegun, Replayed};
 
 use files::{File, Part, read_part};
-use libc::STDOUT_FILENO;
 use playback_opening::Beginning;
 use playback_parts::{Doing, Form, Playback};
 use playback_pieces::Stop;
@@ -15,8 +16,11 @@ use progress::Progress;
 use tape::Setup;
 use tape_files::SHORTEST_WINDOW;
 
+// A file descriptor.
+const STDOUT_FILENO: i32 = 1;
+
 // Why no more is printed by a window.
-#[derive(Drop)]
+#[derive(Clone, Copy)]
 pub enum Reached {
     // The text was full, and was written.
     Again,
@@ -28,14 +32,14 @@ pub enum Reached {
 }
 
 // Where a replay is after pieces that were written.
-#[derive(Drop)]
+#[derive(Clone, Copy)]
 pub struct Through {
     pub playback: Playback,
     pub reached: Reached,
 }
 
 // What came of a replay.
-#[derive(Drop)]
+#[derive(Clone, Copy)]
 pub enum Ending {
     // All of it was written.
     Over,
@@ -54,7 +58,7 @@ pub enum Ending {
 }
 
 // Where a replay is: its place is counted from the tape's word `base`.
-#[derive(Drop)]
+#[derive(Clone, Copy)]
 pub struct Playing {
     pub base: usize,
     pub playback: Playback,
@@ -62,7 +66,7 @@ pub struct Playing {
 }
 
 // After a window.
-#[derive(Drop)]
+#[derive(Clone, Copy)]
 pub enum Went {
     Further(Playing),
     Ended(Ending),
@@ -217,7 +221,7 @@ fn by_window(
     form: Form,
 ) -> Went
     requires { (4 * p.base + length window.now ≤ all) × (p.playback.place ≤ 13) × (last ≡ false → 65540 ≤ length window.now) }
-    ensures { Gone all p.base result × StepsTo form window.now last p.base (moment p.playback fs.old us.old samples.old) result fs.new us.new samples.new }
+    ensures { Gone all p.base result × StepsTo form window.now last p.base (moment p.playback fs.old us.old samples.old) result fs.new us.new samples.new × WentBegun result }
 {
     let w = p.playback;
     let t = write_through(w, fs, us, window, last, samples, text, form);
@@ -227,7 +231,7 @@ fn by_window(
 // Reads the next window, and goes through it.
 fn next_window(
     p: Playing,
-    file: File,
+    file: &File,
     window: &mut [u8],
     fs: &mut [f32],
     us: &mut [u32],
@@ -235,8 +239,8 @@ fn next_window(
     text: &mut [u8],
     form: Form,
 ) -> Went
-    requires { (4 * p.base ≤ file.bytes) × (p.playback.place ≤ 13) × (65540 ≤ length window.old) }
-    ensures { Gone file.bytes p.base result × NextStepsTo form file (length window.old) p.base (moment p.playback fs.old us.old samples.old) result fs.new us.new samples.new }
+    requires { (4 * p.base ≤ file.now.bytes) × (p.playback.place ≤ 13) × (65540 ≤ length window.old) }
+    ensures { Gone file.now.bytes p.base result × NextStepsTo form file.now (length window.old) p.base (moment p.playback fs.old us.old samples.old) result fs.new us.new samples.new × WentBegun result }
 {
     let base = p.base;
     let all = file.bytes;
@@ -253,7 +257,7 @@ fn next_window(
 // All windows.
 fn all_windows(
     begun: Playing,
-    file: File,
+    file: &File,
     window: &mut [u8],
     fs: &mut [f32],
     us: &mut [u32],
@@ -261,8 +265,8 @@ fn all_windows(
     text: &mut [u8],
     form: Form,
 ) -> Ending
-    requires { (4 * begun.base ≤ file.bytes) × (begun.playback.place ≤ 13) × (65540 ≤ length window.old) }
-    ensures { AllStepsTo form file (length window.old) begun.base (moment begun.playback fs.old us.old samples.old) result fs.new us.new samples.new }
+    requires { (4 * begun.base ≤ file.now.bytes) × (begun.playback.place ≤ 13) × (65540 ≤ length window.old) }
+    ensures { AllStepsTo form file.now (length window.old) begun.base (moment begun.playback fs.old us.old samples.old) result fs.new us.new samples.new × EndsBegun result }
 {
     let mut p = begun;
     loop {
@@ -279,18 +283,20 @@ fn all_windows(
     }
 }
 
-// The replay of a tape that was accepted, whose setup this is, by a window of at least 65,540 bytes.
+// The replay of a tape that was accepted, whose setup this is, by a window of at least 65,540 bytes. The progress is one that has
+// begun.
 pub fn replay(
-    file: File,
+    file: &File,
     setup: Setup,
     form: Form,
+    shown: Progress,
     window: &mut [u8],
     fs: &mut [f32],
     us: &mut [u32],
     samples: &mut [f32],
     text: &mut [u8],
 ) -> Ending
-    ensures { Replayed form file setup (length window.old) fs.old us.old samples.old text.old result fs.new us.new samples.new text.new }
+    ensures { Replayed form file.now setup (length window.old) fs.old us.old samples.old text.old result fs.new us.new samples.new text.new }
 {
     if window.len() < SHORTEST_WINDOW {
         return Ending::NoRoom;
@@ -303,7 +309,7 @@ pub fn replay(
             let first = Playing {
                 base: 0,
                 playback: w,
-                progress: progress::begin(),
+                progress: shown,
             };
             all_windows(first, file, window, fs, us, samples, text, form)
         }

@@ -1,7 +1,12 @@
 // How far a replay is, on standard error where that is a terminal: percent of the file and minutes of sound.
+#![tactic(auto)]
+
 use calls::Side;
-use libc::{STDERR_FILENO, STDOUT_FILENO};
+use std::io::IsTerminal;
 use tape::{Found, Step};
+
+// A file descriptor.
+const STDERR_FILENO: i32 = 2;
 
 // Samples in a minute of sound.
 const MINUTE: u64 = 2880000;
@@ -12,9 +17,11 @@ const MOST: u64 = 0x7fff_ffff_ffff_ffff;
 // No percentage.
 const NONE: usize = 101;
 
-#[derive(Drop)]
+#[derive(Clone, Copy)]
 pub struct Progress {
     pub shown: bool,
+    // Whether the output goes to a terminal too.
+    pub lines: bool,
     // The percentage that was told last.
     pub percent: usize,
     // The samples that were played.
@@ -22,9 +29,11 @@ pub struct Progress {
     pub b: u64,
 }
 
-pub fn begin() -> Progress {
+// With the output, and where it is told how far a replay is.
+pub fn begin<O: IsTerminal, E: IsTerminal>(output: &O, errors: &E) -> Progress {
     Progress {
-        shown: libc::isatty(STDERR_FILENO) == 1,
+        shown: errors.is_terminal(),
+        lines: output.is_terminal(),
         percent: NONE,
         a: 0,
         b: 0,
@@ -50,16 +59,19 @@ fn heard(p: Progress, window: &[u8], place: usize) -> Progress {
         return p;
     };
     let shown = p.shown;
+    let lines = p.lines;
     let percent = p.percent;
     match side {
         Side::A => Progress {
             shown,
+            lines,
             percent,
             a: sum(p.a, samples),
             b: p.b,
         },
         Side::B => Progress {
             shown,
+            lines,
             percent,
             a: p.a,
             b: sum(p.b, samples),
@@ -106,7 +118,7 @@ fn minutes(p: Progress) -> u64 {
 
 // Where the output goes to the terminal too, each is a line of its own; else it stands over the last.
 fn tell(p: Progress) {
-    let lines = libc::isatty(STDOUT_FILENO) == 1;
+    let lines = p.lines;
     if !lines {
         io::write_all(STDERR_FILENO, b"\r");
     }
@@ -138,6 +150,7 @@ pub fn further(
     }
     let now = Progress {
         shown: true,
+        lines: sofar.lines,
         percent,
         a: sofar.a,
         b: sofar.b,
@@ -151,7 +164,7 @@ pub fn end(p: Progress) {
     if !p.shown {
         return;
     }
-    if libc::isatty(STDOUT_FILENO) == 1 {
+    if p.lines {
         return;
     }
     io::write_all(STDERR_FILENO, b"\n");

@@ -3,13 +3,20 @@
 // the tape. Before it is handed over, an audio datagram of channel A gets the number of those before it as its sequence, and a
 // waterfall datagram the round's number as its row's, so that no packet is late and no row is complete already. At the end
 // the sum of the last samples' bit patterns and the number of accepted calls are printed.
+#![tactic(auto)]
+
 mod rounds;
 
-use libc::{STDERR_FILENO, STDOUT_FILENO};
 use receiver_setup::Opening;
 use receiver_state::Receiver;
+use std::io::Stdin;
 use tape::SetupRead;
 use udp_framing::big_endian::read_u16;
+
+// File descriptors.
+const STDERR_FILENO: i32 = 2;
+
+const STDOUT_FILENO: i32 = 1;
 
 fn say(sentence: &[u8]) {
     io::write_all(STDERR_FILENO, sentence);
@@ -53,8 +60,9 @@ fn lend(tape: &mut [u8], count: u32) {
     with_words(tape, count, &mut us);
 }
 
-fn run(bytes: &mut [u8]) {
-    let read = input::read_all(bytes);
+fn run(stdin: Stdin, bytes: &mut [u8]) {
+    let mut reader = stdin;
+    let read = input::read_all(&mut reader, bytes);
     let n = read.bytes;
     if read.failed {
         say(b"repeat_tape: standard input could not be read\n");
@@ -70,7 +78,7 @@ fn run(bytes: &mut [u8]) {
     lend(&mut bytes[4..n], count);
 }
 
-fn main() {
+fn main(rt: HostRuntime) {
     let mut bytes = [0u8; 524292];
-    run(&mut bytes);
+    run(rt.stdin(), &mut bytes);
 }

@@ -8,7 +8,7 @@ use tape::Step;
 use tape::reader::{call_at, step_at};
 
 // Where a round stands: the receiver, the next call's place, the audio datagrams so far, and how many calls may still come.
-#[derive(Drop)]
+#[derive(Clone, Copy)]
 struct Standing {
     receiver: Receiver,
     place: usize,

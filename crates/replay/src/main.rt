@@ -1,6 +1,10 @@
 // Replays the tape on standard input and prints what was heard: document 01's replay, over areas of 16,384 words and a tape
 // of at most 65,536 bytes. A tape that is longer, and input or output that fails, are told on standard error too.
+#![tactic(auto)]
+
 mod output;
+
+use std::io::Stdin;
 
 // The tape that was read.
 fn replay(tape: &[u8]) {
@@ -14,8 +18,9 @@ fn replay(tape: &[u8]) {
 }
 
 // Of a longer tape one byte more than the limit is read.
-fn run(tape: &mut [u8]) {
-    let read = input::read_all(tape);
+fn run(stdin: Stdin, tape: &mut [u8]) {
+    let mut reader = stdin;
+    let read = input::read_all(&mut reader, tape);
     let n = read.bytes;
     if read.failed {
         output::say(b"replay: standard input could not be read\n");
@@ -24,7 +29,7 @@ fn run(tape: &mut [u8]) {
     replay(&tape[..n]);
 }
 
-fn main() {
+fn main(rt: HostRuntime) {
     let mut tape = [0u8; 65537];
-    run(&mut tape);
+    run(rt.stdin(), &mut tape);
 }

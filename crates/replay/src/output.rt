@@ -2,7 +2,6 @@
 ghost use Rattle.std.specs.Prelude.{true, ◌≡◌, ◌≤◌, ◌<◌, length};
 ghost use Rattle.playback.specs.Steps.{turns_left};
 
-use libc::{STDERR_FILENO, STDOUT_FILENO};
 use playback::Turn;
 use playback_opening::Beginning;
 use playback_opening::limits::begin_limited;
@@ -10,11 +9,16 @@ use playback_parts::{Form, Playback};
 use playback_pieces::{Stop, pieces};
 use tape::Found;
 
+// File descriptors.
+const STDERR_FILENO: i32 = 2;
+
+const STDOUT_FILENO: i32 = 1;
+
 // No place of a tape is behind it.
 const EVERY_PLACE: usize = 0xffff_ffff_ffff_ffff;
 
 // Where a loop of pieces is, and whether standard output could not be written.
-#[derive(Drop)]
+#[derive(Clone, Copy)]
 struct Printing {
     turn: Turn,
     failed: bool,

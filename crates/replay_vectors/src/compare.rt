@@ -9,7 +9,7 @@ use playback_opening::limits::begin_limited;
 use playback_parts::Playback;
 
 // Where a comparison is: the steps, and how far their text was as expected.
-#[derive(Drop)]
+#[derive(Clone, Copy)]
 pub struct Comparing {
     pub turn: Turn,
     pub at: usize,

@@ -2,21 +2,25 @@
 ghost use Rattle.std.specs.Prelude.{◌+◌, ◌^◌, ◌<◌, ◌≤◌, length};
 
 use crate::compare::prints;
-use libc::{STDIN_FILENO, STDOUT_FILENO};
 use std::num::wrapping_add_u64;
+
+// File descriptors.
+const STDIN_FILENO: i32 = 0;
+
+const STDOUT_FILENO: i32 = 1;
 
 // No list has more tapes.
 const MOST: usize = 1000000;
 
 // How many tapes were replayed, how many differ, and what was read last.
-#[derive(Drop)]
+#[derive(Clone, Copy)]
 pub struct Tally {
     pub tapes: u64,
     pub differ: u64,
     pub last: Read,
 }
 
-#[derive(Drop)]
+#[derive(Clone, Copy)]
 pub enum Read {
     // A tape and its output.
     Record,

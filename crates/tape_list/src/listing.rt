@@ -4,9 +4,11 @@ ghost use Rattle.tape.specs.Answers.{Inside};
 
 use crate::words::{bits, end_of_line, number, place, side, word};
 use calls::{DepthCounts, Estimates, Settings, Sizes};
-use libc::STDOUT_FILENO;
 use tape::{Found, Setup, SetupRead};
 use udp_framing::{MediaHeader, ParsedHeader};
+
+// A file descriptor.
+const STDOUT_FILENO: i32 = 1;
 
 // The first bytes of a line, to standard output.
 fn put(line: &[u8], n: usize) -> bool {
@@ -209,7 +211,7 @@ fn behind(found: Found) -> usize {
 }
 
 // Where a list is: the next place, whether it goes on, and whether its lines could be written.
-#[derive(Drop)]
+#[derive(Clone, Copy)]
 struct Listing {
     at: usize,
     going: bool,

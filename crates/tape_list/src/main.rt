@@ -1,10 +1,15 @@
 // Lists the tape on standard input: a line for its setup, for each call and for its end, each with the place where it
 // stands. Of a tape that is refused what stands before the first bad word is listed, and then the place of that word.
 // A tape of more than 524,288 bytes, and input or output that fails, are told on standard error.
+#![tactic(auto)]
+
 mod listing;
 mod words;
 
-use libc::STDERR_FILENO;
+use std::io::Stdin;
+
+// A file descriptor.
+const STDERR_FILENO: i32 = 2;
 
 fn say(sentence: &[u8]) {
     io::write_all(STDERR_FILENO, sentence);
@@ -21,8 +26,9 @@ fn list(tape: &[u8]) {
     }
 }
 
-fn run(tape: &mut [u8]) {
-    let read = input::read_all(tape);
+fn run(stdin: Stdin, tape: &mut [u8]) {
+    let mut reader = stdin;
+    let read = input::read_all(&mut reader, tape);
     let n = read.bytes;
     if read.failed {
         say(b"tape_list: standard input could not be read\n");
@@ -32,7 +38,7 @@ fn run(tape: &mut [u8]) {
 }
 
 // Of a longer tape one byte more than the limit is read.
-fn main() {
+fn main(rt: HostRuntime) {
     let mut tape = [0u8; 524289];
-    run(&mut tape);
+    run(rt.stdin(), &mut tape);
 }

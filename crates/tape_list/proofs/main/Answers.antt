@@ -1,0 +1,8 @@
+-- `tape_list::main` meets its contract: the array is as long as it is made. Assumes nothing.
+use Prim.Native.Nat.{ℕ}
+use mathlib.Core.Path.{sym}
+use lib.ListN.{length-replicate}
+use Rattle.tape_list.proofs.main.Goals as goal
+
+pub slice_bounds-run-end : goal.slice_bounds-run-end
+slice_bounds-run-end c = sym (length-replicate {0} {A = ℕ} 524289 0)
