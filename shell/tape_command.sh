@@ -13,7 +13,7 @@ give_up() {
 [ -e /dev/fd/1 ] || give_up "standard output could not be written"
 if [ -e /dev/fd/0 ]; then has_input=yes; else has_input=no; exec 0< /dev/null; fi
 
-program=$root/target/bin/$crate
+program=$root/crates/$crate/out/$crate
 log=$root/target/$name-build.log
 
 # Prints the usage that was asked for.
@@ -51,21 +51,21 @@ open_tape() {
   { exec 3< "$tape"; } 2> /dev/null || give_up "'$tape' cannot be read"
 }
 
-# Waits two seconds for the end of its input, and says where it has not come.
+# Waits ten seconds for the end of its input, and says where it has not come.
 say_where_long() {
-  read -r -t 2
+  read -r -t 10
   [ $? -le 128 ] || echo "$name: building and proving the program; the first time this takes $first_time" >&2
 }
 
 # The program is built and proved each time, so that it is never older than its sources; what is unchanged is not proved again.
-# Where that takes longer than two seconds one line on standard error says so, and nothing does where it is quicker. What the
-# build printed is in the log.
+# rt then runs it once, on no input and with no words, and what it prints on that goes to the log, as all that the build
+# printed. Where this takes longer than ten seconds one line on standard error says so, and nothing does where it is quicker.
 build() {
   command -v rt > /dev/null || give_up "rt is not on the PATH: install the Rattle toolchain, and put the folder of its rt on the PATH"
   { mkdir -p "$root/target" && : > "$log"; } 2> /dev/null || give_up "'$log' cannot be written"
   exec 5> >(say_where_long)
   local watch=$! status
-  (cd "$root" && exec rt check "$crate") < /dev/null > "$log" 2>&1 3<&- 5>&-
+  (cd "$root/crates/$crate" && exec rt run) < /dev/null > "$log" 2>&1 3<&- 5>&-
   status=$?
   exec 5>&-
   wait "$watch"
@@ -73,14 +73,18 @@ build() {
     tail -n 5 "$log" >&2
     give_up "the program could not be built; '$log' has all that was said"
   fi
-  [ -x "$program" ] || give_up "there is no program at '$program', though rt has proved it: remove target/ and try again"
+  [ -x "$program" ] || give_up "there is no program at '$program', though rt has proved it: remove '$root/crates/$crate/out' and try again"
 }
 
 # Runs the program, and prints what the words given, a command, leave of its output. All of its output goes to descriptor 4.
-# The status is that of tee, 1 where it could not write, or else the program's.
+# The status is that of tee, 1 where it could not write, or else the program's. Where the reader of the output goes away tee is
+# ended by that, and the program, which is not, says that it could not write: so what it says is passed on only at its end.
 play() {
-  "$program" <&3 4>&- | tee >("$@"; cat > /dev/null) >&4 2> /dev/null
-  local ended=("${PIPESTATUS[@]}")
+  local said=$root/target/$name-said.$$ ended
+  "$program" <&3 4>&- 2> "$said" | tee >("$@"; cat > /dev/null) >&4 2> /dev/null
+  ended=("${PIPESTATUS[@]}")
+  [ "${ended[1]}" -eq 141 ] || cat "$said" >&2
+  rm -f "$said"
   [ "${ended[1]}" -eq 0 ] || return "${ended[1]}"
   return "${ended[0]}"
 }
