@@ -13,16 +13,48 @@ original() {
   ln -s "$(cd "$1" && pwd)" "$work/rigflow"
 }
 
-# Proves crates and writes their static libraries.
+# What rt said that tells most: its first errors, else its last lines.
+said() {
+  if grep -q 'error:' "$work/log"; then
+    grep -m 5 'error:' "$work/log" | cut -c1-400
+  else
+    tail -n 5 "$work/log"
+  fi
+}
+
+# Proves crates and writes their static libraries. A crate that others stand on has a crate beside it for that, NAME_c, whose
+# library goes by the first one's name.
 libraries() {
+  mkdir -p "$work/staticlib"
   for crate in "$@"; do
-    (cd "$root" && rt staticlib "$crate") > "$work/log" 2>&1 || { tail -n 5 "$work/log"; echo "could not be built"; exit 2; }
+    from=$crate
+    [ ! -d "$root/crates/${crate}_c" ] || from=${crate}_c
+    (cd "$root/crates/$from" && rt lib) > "$work/log" 2>&1 || { said; echo "could not be built"; exit 2; }
+    cp "$root/crates/$from/out/lib$from.a" "$work/staticlib/lib$crate.a"
   done
 }
 
-# Proves a program with all it stands on, and writes target/bin/NAME.
+# Proves a program with all it stands on, and writes crates/NAME/out/NAME, which rt then runs on no input.
 program() {
-  (cd "$root" && rt check "$1") > "$work/log" 2>&1 && [ -x "$root/target/bin/$1" ] || { tail -n 5 "$work/log"; echo "$1 could not be built"; exit 2; }
+  (cd "$root/crates/$1" && rt run) < /dev/null > "$work/log" 2>&1 && [ -x "$root/crates/$1/out/$1" ] || { said; echo "$1 could not be built"; exit 2; }
+}
+
+# A copy of the definitions of crates/model, with what computed facts open, as a crate under a root of its own. The facts are to
+# be written into $module, a file of its proofs/.
+definitions() {
+  echo 'model:' > "$work/crates.txt"
+  model=$work/crates/model
+  mkdir -p "$model/src" "$model/proofs"
+  cp -r "$root/crates/model/specs" "$model"
+  cp "$root/crates/model/src/lib.rt" "$model/src"
+  cp "$root/crates/model/proofs/Computes.antt" "$model/proofs"
+  printf 'pub mod %s\n' Computes Facts > "$model/proofs/Lib.antt"
+  module=$model/proofs/Facts.antt
+}
+
+# Has that crate checked. What the prover says of it is in $work/log.
+check_definitions() {
+  (cd "$model" && rt check) > "$work/log" 2>&1
 }
 
 # The width and height of the original's picture.
@@ -35,6 +67,6 @@ picture() {
 run() {
   program=$1
   shift
-  rustc --edition 2021 -O -A warnings -L "$root/target/staticlib" -o "$work/$program" "$work/$program.rs"
+  rustc --edition 2021 -O -A warnings -L "$work/staticlib" -o "$work/$program" "$work/$program.rs"
   "$work/$program" "$@"
 }

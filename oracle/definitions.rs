@@ -190,7 +190,7 @@ impl Session {
         let send = r.next() >> r.below(60);
         let receive = send.wrapping_add(r.below(6_000_000_000)).wrapping_sub(500_000_000);
         self.metrics.record_audio_one_way(receive, send);
-        self.calls.push(format!("oneWay {} {}", receive, send));
+        self.calls.push(format!("one_way {} {}", receive, send));
     }
 
     fn depth(&mut self, r: &mut Random) {
@@ -206,7 +206,7 @@ impl Session {
     fn transmit(&mut self, r: &mut Random) {
         let n = r.below(20000);
         self.metrics.note_tx_ring(n as usize);
-        self.calls.push(format!("transmitDepth {}", n));
+        self.calls.push(format!("transmit_depth {}", n));
     }
 
     // the final state, in the order of `digest` in definitions.sh
@@ -280,9 +280,9 @@ fn main() {
             }
         }
         s.close();
-        println!("session-{case} : digest (setupOf {packet} {target} {max} {bins} {}) ({})", e.map(|x| x.to_string()).join(" "), list(&s.calls));
+        println!("session_{case} : digest (setup_of {packet} {target} {max} {bins} {}) ({})", e.map(|x| x.to_string()).join(" "), list(&s.calls));
         println!("    ≡ {}", list(&s.numbers));
-        println!("unfolding computes digest setupOf playBits countersOf floatBits mark lent optionBits displayBits clockDigest");
-        println!("session-{case} = refl\n");
+        println!("unfolding computes digest setup_of play_bits counters_of float_bits mark lent option_bits display_bits clock_digest");
+        println!("session_{case} = refl\n");
     }
 }

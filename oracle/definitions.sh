@@ -6,92 +6,101 @@
 original "$1"
 seed=${2:-1}
 count=${3:-100}
-mkdir -p "$work/model/src" "$work/model/proofs"
-: > "$work/model/src/lib.rt"
-cp -r "$root/crates/model/specs" "$work/model/specs"
-module="$work/model/specs/Sessions.antt"
-# the sessions' imports and the list of what they open, then the numbers that are compared, then the equations
-sed -i '/^-- ---- the jitter buffer/,$d' "$module"
-sed -i 's/^use mathlib.Core.Bool.{true}$/use mathlib.Core.Bool.{true, false}/' "$module"
-sed -i 's/^use lib.ListN.{replicate}$/use lib.ListN.{replicate, length}\nuse Rattle·model·specs.specs.Receiver.{Lent, reset, set, probe, oneWay, depth, transmitDepth, refused, accepted}/' "$module"
-cat >> "$module" <<'ANTT'
-setupOf : ℕ → ℕ → ℕ → ℕ → ℕ → ℕ → ℕ → ℕ → ℕ → ℕ → Setup
-setupOf packet target max bins t f r u g s =
+definitions
+cat > "$module" <<'ANTT'
+use Rattle.std.specs.Prelude.{◌≡◌, refl, ℕ, true, false, List, [], ◌∷◌, ◌++◌, Float}
+use Rattle.std.proofs.Math.Option.{Option, none, some}
+use Rattle.model.specs.Floats as Floats
+use Rattle.model.specs.Sizes.{Sizes}
+use Rattle.model.specs.Framing.{A, B}
+use Rattle.model.specs.JitterBuffer as Jitter
+use Rattle.model.specs.JitterBuffer.{Buffer}
+use Rattle.model.specs.Scaling as Scaling
+use Rattle.model.specs.Clock as Clock
+use Rattle.model.specs.Receiver.{Setup, Call, Lent, datagram, play, reset, set, probe, one_way, depth, transmit_depth, refused, accepted, played, row, fresh}
+use Rattle.model.specs.Step.{Event, run}
+use Rattle.model.proofs.Computes.{computes}
+
+-- ---- the numbers that are compared
+
+setup_of : ℕ → ℕ → ℕ → ℕ → ℕ → ℕ → ℕ → ℕ → ℕ → ℕ → Setup
+setup_of packet target max bins t f r u g s =
     record {
       sizes = record { packet = packet; target = target; max = max; bins = bins; width = 4; height = 2 };
-      estimatesA = record { top = t; floor = f; range = r };
-      estimatesB = record { top = u; floor = g; range = s }
+      estimates_a = record { top = t; floor = f; range = r };
+      estimates_b = record { top = u; floor = g; range = s }
     }
 
 lent : Lent
 lent = record { floats = 16384; words = 16384 }
 
-floatBits : List Float → List ℕ
-floatBits [] = []
-floatBits (x ∷ xs) = Floats.toBits x ∷ floatBits xs
+float_bits : List Float → List ℕ
+float_bits [] = []
+float_bits (x ∷ xs) = Floats.to_bits x ∷ float_bits xs
 
-playBits : List Event → List ℕ
-playBits [] = []
-playBits (e ∷ es) =
-    elim (e .answer) [ refused n ↦ [] | accepted ↦ [] | played p ↦ floatBits (p .samples) | row r ↦ [] ] ++ playBits es
+play_bits : List Event → List ℕ
+play_bits [] = []
+play_bits (e ∷ es) =
+    elim e.answer [ refused n ↦ [] | accepted ↦ [] | played p ↦ float_bits p.samples | row r ↦ [] ] ++ play_bits es
 
-countersOf : Sizes → Buffer Float → List ℕ
-countersOf z b =
-    let k = b .counters in
-    k .received ∷ k .inserted ∷ k .concealed ∷ k .late ∷ k .overflow ∷ k .invalidSize ∷ k .resyncs
-    ∷ b .largest ∷ Jitter.buffered z b ∷ []
+counters_of : Sizes → Buffer Float → List ℕ
+counters_of z b =
+    let k = b.counters in
+    k.received ∷ k.inserted ∷ k.concealed ∷ k.late ∷ k.overflow ∷ k.invalid_size ∷ k.resyncs
+    ∷ b.largest ∷ Jitter.buffered z b ∷ []
 
 mark : List ℕ
 mark = 77 ∷ []
 
-optionBits : Option Float → ℕ
-optionBits none = 1
-optionBits (some x) = Floats.toBits x
+option_bits : Option Float → ℕ
+option_bits none = 1
+option_bits (some x) = Floats.to_bits x
 
-displayBits : Scaling.Display → List ℕ
-displayBits d = floatBits (d .topEstimate ∷ d .floorEstimate ∷ d .rangeEstimate ∷ [])
+display_bits : Scaling.Display → List ℕ
+display_bits d = float_bits (d.top_estimate ∷ d.floor_estimate ∷ d.range_estimate ∷ [])
 
-clockDigest : Clock.Clock → List ℕ
-clockDigest k =
-    optionBits (Clock.offsetMs k) ∷ optionBits (Clock.roundTripMs k) ∷ optionBits (Clock.oneWayMs k)
-    ∷ Floats.toBits (Clock.depthMs k) ∷ Floats.toBits (Clock.depthPeakMs k) ∷ Floats.toBits (k .transmitPeak)
-    ∷ k .counts .conceals ∷ k .counts .late ∷ k .counts .overflow ∷ k .counts .resyncs ∷ []
+clock_digest : Clock.Clock → List ℕ
+clock_digest k =
+    option_bits (Clock.offset_ms k) ∷ option_bits (Clock.round_trip_ms k) ∷ option_bits (Clock.one_way_ms k)
+    ∷ Floats.to_bits (Clock.depth_ms k) ∷ Floats.to_bits (Clock.depth_peak_ms k) ∷ Floats.to_bits k.transmit_peak
+    ∷ k.counts.conceals ∷ k.counts.late ∷ k.counts.overflow ∷ k.counts.resyncs ∷ []
 
 digest : Setup → List Call → List ℕ
 digest x cs =
     let r = run lent cs (fresh x) in
-    let s = r .after in
-    let a = s .channelA in
-    let b = s .channelB in
-    let t = s .counts .audio in
-    let w = s .counts .waterfall in
-    playBits (r .events)
-    ++ (countersOf (s .sizes) (a .buffer)
-    ++ (countersOf (s .sizes) (b .buffer)
-    ++ ((s .incoming ∷ t .packets ∷ w .packets ∷ t .dropped ∷ w .dropped ∷ t .late ∷ w .late ∷ [])
-    ++ (floatBits (a .spectrum)
+    let s = r.after in
+    let a = s.channel_a in
+    let b = s.channel_b in
+    let t = s.counts.audio in
+    let w = s.counts.waterfall in
+    play_bits r.events
+    ++ (counters_of s.sizes a.buffer
+    ++ (counters_of s.sizes b.buffer
+    ++ ((s.incoming ∷ t.packets ∷ w.packets ∷ t.dropped ∷ w.dropped ∷ t.late ∷ w.late ∷ [])
+    ++ (float_bits a.spectrum
     ++ (mark
-    ++ (floatBits (b .spectrum)
+    ++ (float_bits b.spectrum
     ++ (mark
-    ++ (floatBits (a .smoothing)
+    ++ (float_bits a.smoothing
     ++ (mark
-    ++ (floatBits (b .smoothing)
+    ++ (float_bits b.smoothing
     ++ (mark
-    ++ (a .picture
-    ++ (b .picture
-    ++ (displayBits (a .display)
-    ++ (displayBits (b .display)
-    ++ clockDigest (s .clock))))))))))))))))
+    ++ (a.picture
+    ++ (b.picture
+    ++ (display_bits a.display
+    ++ (display_bits b.display
+    ++ clock_digest s.clock)))))))))))))))
 
 ANTT
 run definitions "$seed" "$count" >> "$module"
-if ! rt check "$work/model" > "$work/log" 2>&1; then
-  if ! grep -q 'error: `session-' "$work/log" || grep -qE 'not in scope|not admitted' "$work/log"; then
-    tail -n 5 "$work/log"
+if ! check_definitions; then
+  # each error must be a session's, and say what was computed
+  if ! grep -q 'error: `session_' "$work/log" || grep 'error:' "$work/log" | grep -qv 'error: `session_' || grep -qE 'not in scope|not admitted|not unfold|can be named' "$work/log"; then
+    said
     echo "could not be run"
     exit 2
   fi
-  grep 'error: `session-' "$work/log" | cut -c1-400
+  sed -nE 's/^.*error: `(session_[0-9]+)`.*/\1/p; s/^  computed as far as they go, /  /p' "$work/log" | cut -c1-400
   echo "not equal, seed $seed"
   exit 1
 fi

@@ -11,7 +11,7 @@ original "${1:-}"
 minutes=${2:-60}
 if [ -z "${PLAY:-}" ]; then
   program play
-  PLAY=$root/target/bin/play
+  PLAY=$root/crates/play/out/play
 fi
 PLAY=$(realpath "$PLAY")
 [ -f "$PLAY" ] && [ -x "$PLAY" ] || { echo "no program at '$PLAY'" >&2; exit 2; }

@@ -178,10 +178,10 @@ def listed(numbers):
 
 
 # what an equation opens: all that the module defines before the equations
-OPENED = ("computes none′ empty switch bit bits side signed floats orNone signedOr rowOr timingOr depthOr lengthOr sized zs lent given start withCalls "
-          "withSizes withIncoming refusal numbers asks asked streamCode pushOne pushed pushes plays afterPlays each session littleEndianWords chunkOf "
-          "valuesOr completed timingOffset offsets counters counting told heard letters startsLine headCode word known body callAs callsAs readAs "
-          "madeOf written′")
+OPENED = ("computes none' empty switch bit bits side signed floats or_none signed_or row_or timing_or depth_or length_or sized zs lent given start with_calls "
+          "with_sizes with_incoming refusal numbers asks asked stream_code push_one pushed pushes plays after_plays each session little_endian_words chunk_of "
+          "values_or completed timing_offset offsets counters counting told heard letters starts_line head_code word known body call_as calls_as read_as "
+          "made_of written'")
 
 
 def sizes(*six):
@@ -214,7 +214,7 @@ def numbers_of_receiver(q, paper, root):
         if name not in known:
             q.differing.append(f"{place}: Floats has no constant {name}")
             continue
-        q.add(f"receiver-constants-row-{i}", place,
+        q.add(f"receiver_constants_row_{i}", place,
               f"floats (Floats.{name} ∷ (Floats.natf {int(digits)} /f Floats.natf {10 ** len(digits)}) ∷ [])", [b, b], form="hex")
     for name in known:
         if name not in named:
@@ -223,7 +223,7 @@ def numbers_of_receiver(q, paper, root):
     table = paper.table("Numbers", ["what", "rule"], 6)
     must_have(f"{paper.name}, table what | rule", [c[0] for p, c in table], ["round(x)", "a float as a whole number", "printed"])
     for i, (place, (what, rule)) in enumerate(table, 1):
-        name = f"receiver-rules-row-{i}"
+        name = f"receiver_rules_row_{i}"
         if what == "round(x)":
             pairs = re.findall(r"(−?[\d.]+) gives (−?[\d.]+)", rule)
             if len(pairs) < 2:
@@ -231,18 +231,18 @@ def numbers_of_receiver(q, paper, root):
             for x, y in pairs:
                 if not re.fullmatch(r"−?\d+\.5", x):
                     q.differing.append(f"{place}: {x} is no half")
-            q.add(name, place, "floats (map Floats.roundHalfAway (" + "".join(f"Floats.fromBits {float_bits(place, x)} ∷ " for x, y in pairs) + "[]))",
+            q.add(name, place, "floats (map Floats.round_half_away (" + "".join(f"Floats.from_bits {float_bits(place, x)} ∷ " for x, y in pairs) + "[]))",
                   [float_bits(place, y) for x, y in pairs], form="hex")
         elif what == "a float as a whole number":
             n = whole(place, inside(place, rule, r"a NaN gives (\S+)$")[0])
-            q.add(name, place, f"Floats.asUnsigned 64 (Floats.fromBits {0x7FC00000}) ∷ []", [n])
+            q.add(name, place, f"Floats.as_unsigned 64 (Floats.from_bits {0x7FC00000}) ∷ []", [n])
         elif what == "printed":
             digits, nan = inside(place, rule, r"in (\w+) hex digits, a NaN always as ([0-9a-f]+)")
             hexadecimal(place, nan)
             if len(nan) != cardinal(place, digits):
                 q.differing.append(f"{place}: {nan} does not have {digits} digits")
             for k, (x, shown) in enumerate([(0x7F800001, nan), (0xFFFFFFFF, nan), (0xBF800000, "bf800000"), (1, "1".rjust(CARDINALS[digits], "0"))], 1):
-                q.add(f"{name}-{k}", place, f"Replay.hexBits (Floats.fromBits {x})", list(shown.encode()), form="text")
+                q.add(f"{name}_{k}", place, f"Replay.hex_bits (Floats.from_bits {x})", list(shown.encode()), form="text")
 
 
 def sizes_and_memory(q, paper):
@@ -271,12 +271,12 @@ def sizes_and_memory(q, paper):
                 z.update(packet=1, target=1, max=1)
             tried.append(sizes(*(z[s] for s in order)))
             wanted.append(answer)
-        q.add(f"receiver-sizes-row-{i}", place, "bits (map Sizes.sizesAllowed (" + "".join(f"{z} ∷ " for z in tried) + "[]))", wanted)
+        q.add(f"receiver_sizes_row_{i}", place, "bits (map Sizes.sizes_allowed (" + "".join(f"{z} ∷ " for z in tried) + "[]))", wanted)
 
     place, (formula,) = paper.sentence("Sizes and memory", r"rounded up: ([^.]*)\. ", "the formula of S")
     worked = [(3, 5, 10, 7, 2, 3), (4, 8, 8, 2, 5, 1), (480, 1920, 9600, 1024, 640, 200)]
     most = lambda z: worked_out(place, formula, int, dict(zip(order, z)))
-    q.add("receiver-formula-of-waiting", place, "map Sizes.mostWaiting (" + "".join(f"{sizes(*z)} ∷ " for z in worked) + "[])", [most(z) for z in worked])
+    q.add("receiver_formula_of_waiting", place, "map Sizes.most_waiting (" + "".join(f"{sizes(*z)} ∷ " for z in worked) + "[])", [most(z) for z in worked])
     for i, (place, (area, parts, length)) in enumerate(paper.table("Sizes and memory", ["area", "one section, in this order", "length"], 2), 1):
         kind = {"floats": "float", "words": "word"}.get(area)
         if kind is None:
@@ -291,76 +291,76 @@ def sizes_and_memory(q, paper):
                     raise CannotRun(f"{place}: '{part}' names no size")
                 section += worked_out(place, formula_of_part.group(), int, names)
             wanted += [section, worked_out(place, length, int, dict(names, section=section))]
-        q.add(f"receiver-areas-row-{i}", place, "".join(f"Sizes.{kind}Section {sizes(*z)} ∷ Sizes.{kind}Area {sizes(*z)} ∷ " for z in worked) + "[]", wanted)
+        q.add(f"receiver_areas_row_{i}", place, "".join(f"Sizes.{kind}_section {sizes(*z)} ∷ Sizes.{kind}_area {sizes(*z)} ∷ " for z in worked) + "[]", wanted)
 
     place, groups = paper.sentence(
         "Sizes and memory", r"With ([\d,]+), ([\d,]+), ([\d,]+) and ([\d,]+) bin, S is ([\d,]+), a section has ([\d,]+) floats, and the area ([\d,]+)\.",
         "the worked sizes")
     packet, target, most_buffered, bins, s, section, area = (whole(place, g) for g in groups)
     z = sizes(packet, target, most_buffered, bins, 1, 1)
-    q.add("receiver-worked-sizes", place, f"Sizes.mostWaiting {z} ∷ Sizes.floatSection {z} ∷ Sizes.floatArea {z} ∷ []", [s, section, area])
+    q.add("receiver_worked_sizes", place, f"Sizes.most_waiting {z} ∷ Sizes.float_section {z} ∷ Sizes.float_area {z} ∷ []", [s, section, area])
 
 
 def starting_values(q, paper):
-    both = lambda text: [text.replace("@", c) for c in ("channelA", "channelB")]
+    both = lambda text: [text.replace("@", c) for c in ("channel_a", "channel_b")]
     counters = ["received", "inserted", "concealed", "late", "overflow", "invalid size", "resyncs", "filled"]
     where = {
-        "the receiver": {"accepted calls": ["start .calls"], "incoming": ["start .incoming"]},
+        "the receiver": {"accepted calls": ["start.calls"], "incoming": ["start.incoming"]},
         "streams 1 and 2, each": {
-            **{n: [f"start .counts .{s} .{n}" for s in ("audio", "waterfall")] for n in ("packets", "dropped", "late")},
-            "last sequence": [f"orNone (start .counts .{s} .last)" for s in ("audio", "waterfall")]},
+            **{n: [f"start.counts.{s}.{n}" for s in ("audio", "waterfall")] for n in ("packets", "dropped", "late")},
+            "last sequence": [f"or_none (start.counts.{s}.last)" for s in ("audio", "waterfall")]},
         "each channel's sound": {
-            "waiting packets": both("lengthOr (start .@ .buffer .waiting)"),
-            "queue": both("lengthOr (start .@ .buffer .queue)"),
-            "next sequence": both("orNone (start .@ .buffer .next)"),
-            "run of fillers": both("start .@ .buffer .run"),
-            "largest buffered amount": both("start .@ .buffer .largest"),
-            **{n: both(f"start .@ .buffer .counters .{n.replace(' size', 'Size')}") for n in counters}},
+            "waiting packets": both("length_or start.@.buffer.waiting"),
+            "queue": both("length_or start.@.buffer.queue"),
+            "next sequence": both("or_none start.@.buffer.next"),
+            "run of fillers": both("start.@.buffer.run"),
+            "largest buffered amount": both("start.@.buffer.largest"),
+            **{n: both(f"start.@.buffer.counters.{n.replace(' ', '_')}") for n in counters}},
         "each channel's rows": {
-            "open row": both("rowOr (start .@ .row)"),
-            "spectrum": both("lengthOr (start .@ .spectrum)"),
-            "smoothing buffer": both("lengthOr (start .@ .smoothing)"),
+            "open row": both("row_or start.@.row"),
+            "spectrum": both("length_or start.@.spectrum"),
+            "smoothing buffer": both("length_or start.@.smoothing"),
             "picture": None},
         "each channel's settings": {
-            "adaptive": both("switch (start .@ .display .adaptive)"),
-            **{n: both(f"Floats.toBits (start .@ .display .{n})") for n in ("top", "range", "zoom", "smoothing")}},
+            "adaptive": both("switch start.@.display.adaptive"),
+            **{n: both(f"Floats.to_bits start.@.display.{n}") for n in ("top", "range", "zoom", "smoothing")}},
         "each channel's estimates": {n: None for n in ("top", "floor", "range")},
         "the clock": {
-            "offset": ["timingOr (λ t. Clock.bits64 (t .offset)) (start .clock .timing)"],
-            "round trip": ["timingOr (λ t. t .roundTrip) (start .clock .timing)"],
-            "least": ["timingOr (λ t. t .least) (start .clock .timing)"],
-            "one-way": ["signedOr (start .clock .oneWay)"],
-            "depth": ["depthOr (start .clock .depth)"],
-            **{n: [f"start .clock .counts .{n}"] for n in ("conceals", "late", "overflow", "resyncs")},
-            "transmit peak": ["Floats.toBits (start .clock .transmitPeak)"]},
+            "offset": ["timing_or (λ t. Clock.bits64 t.offset) start.clock.timing"],
+            "round trip": ["timing_or (λ t. t.round_trip) start.clock.timing"],
+            "least": ["timing_or (λ t. t.least) start.clock.timing"],
+            "one-way": ["signed_or start.clock.one_way"],
+            "depth": ["depth_or start.clock.depth"],
+            **{n: [f"start.clock.counts.{n}"] for n in ("conceals", "late", "overflow", "resyncs")},
+            "transmit peak": ["Floats.to_bits start.clock.transmit_peak"]},
     }
     of, seen = "", set()
     table = paper.table("What there is, and what it starts as", ["of", "number", "after setup"], 21)
     for i, (place, (group, labels, value)) in enumerate(table, 1):
         of = group or of
-        name = f"receiver-start-row-{i}"
+        name = f"receiver_start_row_{i}"
         for label in labels.split(", "):
             if label not in where.get(of, {}):
                 raise CannotRun(f"{place}: '{of}: {label}' is not known")
             seen.add((of, label))
         if labels == "picture":
             n = whole(place, inside(place, value, r"^all (\S+)$")[0])
-            q.add(name, place, "start .channelA .picture ++ start .channelB .picture", [n] * 12)
+            q.add(name, place, "start.channel_a.picture ++ start.channel_b.picture", [n] * 12)
         elif of == "each channel's estimates":
             if value != "as setup gives them":
                 raise CannotRun(f"{place}: '{value}' cannot be read")
-            left = "".join(f"Floats.toBits (start .{c} .display .{n}Estimate) ∷ " for c in ("channelA", "channelB") for n in labels.split(", "))
+            left = "".join(f"Floats.to_bits (start.{c}.display.{n}_estimate) ∷ " for c in ("channel_a", "channel_b") for n in labels.split(", "))
             q.add(name, place, left + "[]", [bits(float(3 * k + "top floor range".split().index(n) + 1)) for k in (0, 1) for n in labels.split(", ")])
         else:
             left = [e for label in labels.split(", ") for e in where[of][label]]
             word = value.split(":")[0]
             if word in WORDS:
                 n = WORDS[word]
-            elif left[0].startswith("Floats.toBits"):
+            elif left[0].startswith("Floats.to_bits"):
                 n = float_bits(place, value)
             else:
                 n = whole(place, value)
-            q.add(name, place, "".join(f"{e} ∷ " for e in left) + "[]", [n] * len(left), form="hex" if left[0].startswith("Floats.toBits") else "numbers")
+            q.add(name, place, "".join(f"{e} ∷ " for e in left) + "[]", [n] * len(left), form="hex" if left[0].startswith("Floats.to_bits") else "numbers")
     for of, labels in where.items():
         for label in labels:
             if (of, label) not in seen:
@@ -387,7 +387,7 @@ def questions(q, paper):
              7: "is its magic right", 8: "for stream", 9: "numbers in range"}
     number = {}
     for i, (place, (shown, question, by)) in enumerate(paper.table("Questions and refusals", ["number", "question", "asked by"], 9), 1):
-        name = f"receiver-questions-row-{i}"
+        name = f"receiver_questions_row_{i}"
         which = [k for k, text in texts.items() if text in question]
         if len(which) != 1 or which[0] in number:
             raise CannotRun(f"{place}: '{question}' is not known")
@@ -400,17 +400,17 @@ def questions(q, paper):
             asking = by.split(", ")
         if not set(asking) <= set(order):
             raise CannotRun(f"{place}: '{by}' names no calls")
-        q.add(f"{name}-asked", place, f"map (asks {n}) asked", [int(c in asking) for c in order])
+        q.add(f"{name}_asked", place, f"map (asks {n}) asked", [int(c in asking) for c in order])
         tried = []
         if which == [1]:
-            tried = [("withSizes (sized 0 5 10 7 2 3) start", "reset A", n), ("start", "reset A", none)]
+            tried = [("with_sizes (sized 0 5 10 7 2 3) start", "reset A", n), ("start", "reset A", none)]
         if which == [2]:
-            tried = [("withSizes (sized 3 5 10 8 2 3) start", "reset A", n)]
+            tried = [("with_sizes (sized 3 5 10 8 2 3) start", "reset A", n)]
         if which == [3]:
-            tried = [("withIncoming 1 start", "reset A", n)]
+            tried = [("with_incoming 1 start", "reset A", n)]
         if which == [4]:
             most = whole(place, inside(place, question, r"fewer than ([\d,]+) calls")[0])
-            tried = [(f"withCalls {most - 1} start", "reset A", none), (f"withCalls {most} start", "reset A", n)]
+            tried = [(f"with_calls {most - 1} start", "reset A", none), (f"with_calls {most} start", "reset A", n)]
         if which == [5]:
             for k in range(4):
                 given = [0x7F800000 if k == j else 0 for j in range(4)]
@@ -437,15 +437,15 @@ def questions(q, paper):
     place, (of_setup, of_others) = paper.sentence("Questions and refusals", r"Setup asks ([^;]*); each other call (.*?) and then its own", "who asks what")
     of_setup = [whole(place, t) for t in re.split(r", | and ", of_setup)]
     of_others = [whole(place, t) for t in re.split(r", | and ", of_others)]
-    q.add("receiver-questions-of-setup", place, "numbers (getD asked 0 [])", of_setup)
+    q.add("receiver_questions_of_setup", place, "numbers (get_or asked 0 [])", of_setup)
     for k, call in enumerate(order[1:], 1):
-        q.add(f"receiver-questions-of-call-{k}", place, f"take {len(of_others)} (numbers (getD asked {k} []))", of_others)
+        q.add(f"receiver_questions_of_call_{k}", place, f"take {len(of_others)} (numbers (get_or asked {k} []))", of_others)
 
     nine = number[9]
     table = paper.table("Questions and refusals", ["call", "its numbers are in range where"], 3)
     must_have(f"{paper.name}, table call | its numbers are in range where", [c[0] for p, c in table], ["play", "probe", "depth, transmit depth"])
     for i, (place, (shown, rule)) in enumerate(table, 1):
-        name = f"receiver-question-9-row-{i}"
+        name = f"receiver_question_9_row_{i}"
         if shown == "play":
             most = whole(place, inside(place, rule, r"samples are at most (\S+)$")[0])
             q.add(name, place, refusals([("start", f"play {c} {n}") for c in "AB" for n in (most, most + 1)]), [none, nine] * 2)
@@ -455,11 +455,11 @@ def questions(q, paper):
                      f"probe 0 0 0 {high}", f"probe 0 0 0 {high + 1}"]
             q.add(name, place, refusals([("start", t) for t in tried]), [none, nine] * 3)
             cut = whole(place, inside(place, rule, r"cut to (\d+) bits")[0])
-            q.add(f"{name}-cut", place, "".join(f"Clock.bits64 (pos {n}) ∷ " for n in (2**cut - 1, 2**cut, 2**cut + 1)) + "[]", [2**cut - 1, 0, 1])
+            q.add(f"{name}_cut", place, "".join(f"Clock.bits64 (pos {n}) ∷ " for n in (2**cut - 1, 2**cut, 2**cut + 1)) + "[]", [2**cut - 1, 0, 1])
         elif shown == "depth, transmit depth":
             most = whole(place, inside(place, rule, r"samples are at most (\S+)$")[0])
             given = "(record { conceals = 1; late = 2; overflow = 3; resyncs = 4 })"
-            q.add(name, place, refusals([("start", f"depth {n} {given}") for n in (most, most + 1)] + [("start", f"transmitDepth {n}") for n in (most, most + 1)]),
+            q.add(name, place, refusals([("start", f"depth {n} {given}") for n in (most, most + 1)] + [("start", f"transmit_depth {n}") for n in (most, most + 1)]),
                   [none, nine] * 2)
         else:
             raise CannotRun(f"{place}: '{shown}' is not known")
@@ -478,7 +478,7 @@ def header_magic(paper):
 
 
 def datagrams(q, paper):
-    fields = {"magic": "magic", "version": "version", "stream type": "streamType", "sequence": "sequence", "timestamp": "timestamp"}
+    fields = {"magic": "magic", "version": "version", "stream type": "stream_type", "sequence": "sequence", "timestamp": "timestamp"}
     table = header_table(paper)
     must_have(f"{paper.name}, table bytes | what", [re.split(r"[,:]", c[1])[0] for p, c in table], fields)
     for i, (place, (at, what)) in enumerate(table, 1):
@@ -490,41 +490,41 @@ def datagrams(q, paper):
         field = re.split(r"[,:]", what)[0]
         if field not in fields:
             raise CannotRun(f"{place}: '{field}' is not known")
-        q.add(f"receiver-header-row-{i}", place, f"Framing.headerFields (Picture.countFrom 1 16) .{fields[field]} ∷ []", [value])
+        q.add(f"receiver_header_row_{i}", place, f"(Framing.header_fields (Picture.count_from 1 16)).{fields[field]} ∷ []", [value])
         if field == "magic":
-            q.add(f"receiver-header-row-{i}-magic", place, "Framing.magicNumber ∷ []", [header_magic(paper)])
+            q.add(f"receiver_header_row_{i}_magic", place, "Framing.magic_number ∷ []", [header_magic(paper)])
         if field == "stream type":
             streams = re.findall(r"(\d+) (audio|waterfall) of ([AB])", what)
             if len(streams) != 4:
                 raise CannotRun(f"{place}: {len(streams)} streams, not 4")
-            q.add(f"receiver-header-row-{i}-streams", place,
-                  f"map (λ n. streamCode (Framing.streamOf n)) ({listed([whole(place, n) for n, k, c in streams])})",
+            q.add(f"receiver_header_row_{i}_streams", place,
+                  f"map (λ n. stream_code (Framing.stream_of n)) ({listed([whole(place, n) for n, k, c in streams])})",
                   [(1 if k == "audio" else 2) * 10 + "AB".index(c) for n, k, c in streams])
     place, groups = paper.sentence(
         "A datagram", r"An audio payload begins at byte (\d+) in version (\d+) and at byte (\d+) in version (\d+); a datagram of version (\d+) with (\d+) to (\d+) "
         r"bytes has an empty one\. A waterfall payload begins at byte (\d+) in both", "where payloads begin")
     byte1, version1, byte2, version2, version, low, high, rows_begin = (whole(place, g) for g in groups)
-    q.add("receiver-payloads", place,
-          f"Framing.audioStart {version1} ∷ Framing.audioStart {version2} ∷ Framing.headerLength ∷ Framing.headerLength ∷ Framing.audioStart {version} ∷ "
-          f"length (Samples.audioPayload {version} (replicate {low} 0)) ∷ length (Samples.audioPayload {version} (replicate {high} 0)) ∷ []",
+    q.add("receiver_payloads", place,
+          f"Framing.audio_start {version1} ∷ Framing.audio_start {version2} ∷ Framing.header_length ∷ Framing.header_length ∷ Framing.audio_start {version} ∷ "
+          f"length (Samples.audio_payload {version} (replicate {low} 0)) ∷ length (Samples.audio_payload {version} (replicate {high} 0)) ∷ []",
           [byte1, byte2, low, rows_begin, high + 1, 0, 0])
     # versions that a datagram can have
-    q.add("receiver-payloads-versions", place, refusals([("start", f"datagram ({0x52} ∷ {0x53} ∷ {v} ∷ 5 ∷ replicate 12 0)") for v in (version1, version2, version)]),
+    q.add("receiver_payloads_versions", place, refusals([("start", f"datagram ({0x52} ∷ {0x53} ∷ {v} ∷ 5 ∷ replicate 12 0)") for v in (version1, version2, version)]),
           [WORDS["none"]] * 3)
     place, (n,) = paper.sentence("A datagram", r"The first (\d+) bytes are a header", "the header's length")
-    q.add("receiver-header-length", place, "Framing.headerLength ∷ []", [whole(place, n)])
+    q.add("receiver_header_length", place, "Framing.header_length ∷ []", [whole(place, n)])
 
     table = paper.table("A datagram", ["last", "sequence", "e", "dropped grows by", "late grows by"], 7)
     for i, (place, (last, sequence, e, dropped, late)) in enumerate(table, 1):
         s = whole(place, sequence)
         wanted = [whole(place, dropped), whole(place, late)]
         if last == "none":
-            left = f"Counts.droppedBy none {s} ∷ Counts.lateBy none {s} ∷ []"
+            left = f"Counts.dropped_by none {s} ∷ Counts.late_by none {s} ∷ []"
         else:
             l = whole(place, last)
-            left = f"Counts.droppedBy (some {l}) {s} ∷ Counts.lateBy (some {l}) {s} ∷ Framing.nextSequence {l} ∷ []"
+            left = f"Counts.dropped_by (some {l}) {s} ∷ Counts.late_by (some {l}) {s} ∷ Framing.next_sequence {l} ∷ []"
             wanted.append(whole(place, e))
-        q.add(f"receiver-sequences-row-{i}", place, left, wanted)
+        q.add(f"receiver_sequences_row_{i}", place, left, wanted)
 
 
 def sound(q, paper):
@@ -535,7 +535,7 @@ def sound(q, paper):
         if [t[0] for t in after] != ["inserted", "concealed", "resyncs", "filled", "largest"]:
             raise CannotRun(f"{place}: '{then}' cannot be read")
         pushes, played = listed(wholes(place, pushed)), listed(wholes(place, plays))
-        q.add(f"receiver-plays-row-{i}", place, f"session {z} ({pushes}) ({played})",
+        q.add(f"receiver_plays_row_{i}", place, f"session {z} ({pushes}) ({played})",
               wholes(place, taken) + wholes(place, dropped) + wholes(place, short) + [whole(place, n) for _, n in after])
     place, groups = paper.sentence(
         "Sound", r"With (\d+), (\d+) and (\d+), the sequences ([\d, ]+) in turn: the second (\d+) replaces the first; with (\d+) the buffer starts at (\d+), plays (\d+) "
@@ -554,11 +554,11 @@ def sound(q, paper):
         inserted += k not in (second(doubled), sequences.index(late), second(over))
         # inserted, late, overflow, concealed; next; has room
         wanted += [inserted, int(was_late), int(was_over), int(on), filler + 1 if on else WORDS["none"], int(not on)]
-    q.add("receiver-worked-pushes", place, f"pushes {sizes(*three, 1, 1, 1)} ({listed(sequences)}) Jitter.freshBuffer", wanted)
+    q.add("receiver_worked_pushes", place, f"pushes {sizes(*three, 1, 1, 1)} ({listed(sequences)}) Jitter.fresh_buffer", wanted)
     # the queue at the start: the samples of the first, then those of the filler
     packet = three[0]
-    started = f"pushed {sizes(*three, 1, 1, 1)} ({listed(sequences[:sequences.index(starting) + 1])}) Jitter.freshBuffer .queue"
-    q.add("receiver-worked-start", place, f"{started} ++ take {packet} ({started})",
+    started = f"(pushed {sizes(*three, 1, 1, 1)} ({listed(sequences[:sequences.index(starting) + 1])}) Jitter.fresh_buffer).queue"
+    q.add("receiver_worked_start", place, f"{started} ++ take {packet} {started}",
           [1000 * first + k for k in range(packet)] + [0] * packet + [1000 * begin + k for k in range(packet)])
 
 
@@ -569,7 +569,7 @@ def rows(q, paper):
         given = []
         for chunk in re.split(r"; then | and again ", chunks):
             first, values = inside(place, chunk, r"^([\d,]+): (.*)$")
-            given.append(f"chunkOf 7 {total} {whole(place, first)} ({listed([float_bits(place, v) for v in values.split(', ')])})")
+            given.append(f"chunk_of 7 {total} {whole(place, first)} ({listed([float_bits(place, v) for v in values.split(', ')])})")
         if " and again " in chunks and len(set(chunks.split(" and again "))) > 1:
             q.differing.append(f"{place}: '{chunks}' is not the same again")
         which, values = inside(place, completes, r"^at the (\w+): (.*)$")
@@ -579,7 +579,7 @@ def rows(q, paper):
         for k in range(len(given)):
             values_of = [float_bits(place, v) for v in values.split(", ")] if k == ORDINALS[which] else None
             wanted += [WORDS["none"]] if values_of is None else [len(values_of)] + values_of
-        q.add(f"receiver-rows-row-{i}", place, "completed (" + "".join(f"{g} ∷ " for g in given) + "[]) none", wanted)
+        q.add(f"receiver_rows_row_{i}", place, "completed (" + "".join(f"{g} ∷ " for g in given) + "[]) none", wanted)
 
 
 def picture(q, paper):
@@ -589,9 +589,9 @@ def picture(q, paper):
     bins = cardinal(place, groups[0])
     zoom, first, last, start, visible, width = (whole(place, g) for g in groups[1:7])
     shown = wholes(place, groups[7])
-    z = f"{bins} (Floats.fromBits {bits(float(zoom))})"
-    q.add("receiver-zoom", place, f"Picture.windowStart {z} ∷ Picture.windowEnd {z} ∷ Picture.windowStart {z} ∷ Picture.visibleBins {z} ∷ "
-          f"map (Picture.binAt {width} {z}) (Picture.countFrom 0 {width})", [first, last + 1, start, visible] + shown)
+    z = f"{bins} (Floats.from_bits {bits(float(zoom))})"
+    q.add("receiver_zoom", place, f"Picture.window_start {z} ∷ Picture.window_end {z} ∷ Picture.window_start {z} ∷ Picture.visible_bins {z} ∷ "
+          f"map (Picture.bin_at {width} {z}) (Picture.count_from 0 {width})", [first, last + 1, start, visible] + shown)
 
     table = paper.table(section, ["x", "red", "green", "blue"], 4)
     levels = {i: ([], []) for i in range(1, len(table) + 1)}
@@ -609,25 +609,25 @@ def picture(q, paper):
                 float_bits(place, n)
         if not levels[i][0]:
             q.differing.append(f"{place}: no level is in it")
-        q.add(f"receiver-colour-parts-row-{i}", place, f"map Picture.colorMap ({listed(levels[i][0])})", levels[i][1], form="hex")
+        q.add(f"receiver_colour_parts_row_{i}", place, f"map Picture.color_map ({listed(levels[i][0])})", levels[i][1], form="hex")
     for i, (place, (level, colour)) in enumerate(paper.table(section, ["level", "colour"], 6), 1):
         n = whole(place, level)
         if n > 255:
             q.differing.append(f"{place}: there is no level {n}")
-        q.add(f"receiver-colours-row-{i}", place, f"Picture.colorMap {n} ∷ []", [hexadecimal(place, colour)], form="hex")
+        q.add(f"receiver_colours_row_{i}", place, f"Picture.color_map {n} ∷ []", [hexadecimal(place, colour)], form="hex")
 
 
 def clock(q, paper):
     place, groups = paper.sentence("Clock", r"where it is not from (−?[\d,]+) to (−?[\d,]+), both ends in", "the range of one-way")
     low, high = (whole(place, g) for g in groups)
-    q.add("receiver-one-way", place, "bits (map Clock.oneWayInRange (" + "".join(integer(n) + " ∷ " for n in (low - 1, low, high, high + 1)) + "[]))", [0, 1, 1, 0])
+    q.add("receiver_one_way", place, "bits (map Clock.one_way_in_range (" + "".join(integer(n) + " ∷ " for n in (low - 1, low, high, high + 1)) + "[]))", [0, 1, 1, 0])
     for i, (place, (probes, offsets)) in enumerate(paper.table("Clock", ["probes (offset, round trip)", "offsets after each"], 3), 1):
         given = pairs_in(place, probes)
-        q.add(f"receiver-probes-row-{i}", place, "offsets (" + "".join(integer(n) + " ∷ " for n in given) + "[]) none",
+        q.add(f"receiver_probes_row_{i}", place, "offsets (" + "".join(integer(n) + " ∷ " for n in given) + "[]) none",
               [n for o in wholes(place, offsets) for n in signed(o)])
     for i, (place, cells) in enumerate(paper.table("Clock", ["t1", "t2", "t3", "t4", "offset", "round trip"], 2), 1):
         times = " ".join(str(whole(place, c)) for c in cells[:4])
-        q.add(f"receiver-times-row-{i}", place, f"signed (Clock.probeOffset {times}) ++ signed (Clock.probeRoundTrip {times})",
+        q.add(f"receiver_times_row_{i}", place, f"signed (Clock.probe_offset {times}) ++ signed (Clock.probe_round_trip {times})",
               [n for c in cells[4:] for n in signed(whole(place, c))])
 
 
@@ -644,18 +644,18 @@ def floats_in(place, text):
 
 
 def of_bits(patterns):
-    return "(" + "".join(f"Floats.fromBits {b} ∷ " for b in patterns) + "[])"
+    return "(" + "".join(f"Floats.from_bits {b} ∷ " for b in patterns) + "[])"
 
 
 def edges(q, paper):
     """Worked examples beside rules that could be read in two ways."""
     table = paper.table("Sound", ["sequence", "samples", "invalid size", "late", "overflow"], 3)
-    full = f"(pushed {sizes(2, 4, 4, 1, 1, 1)} (5 ∷ 6 ∷ []) Jitter.freshBuffer)"
+    full = f"(pushed {sizes(2, 4, 4, 1, 1, 1)} (5 ∷ 6 ∷ []) Jitter.fresh_buffer)"
     paper.sentence("Sound", r"With 2, 4 and 4, after 5 and 6 the buffer is full and next is 7; then", "the pushes in a full buffer")
     for i, (place, cells) in enumerate(table, 1):
         sequence, samples, *wanted = (whole(place, c) for c in cells)
-        k = f"Jitter.push 0 {sizes(2, 4, 4, 1, 1, 1)} (record {{ sequence = {sequence}; samples = Picture.countFrom 0 {samples} }}) {full} .counters"
-        q.add(f"receiver-push-tests-row-{i}", place, f"({k}) .invalidSize ∷ ({k}) .late ∷ ({k}) .overflow ∷ []", wanted)
+        k = f"(Jitter.push 0 {sizes(2, 4, 4, 1, 1, 1)} (record {{ sequence = {sequence}; samples = Picture.count_from 0 {samples} }}) {full}).counters"
+        q.add(f"receiver_push_tests_row_{i}", place, f"{k}.invalid_size ∷ {k}.late ∷ {k}.overflow ∷ []", wanted)
 
     table = paper.table("Rows", ["chunks in turn: row number, total, first bin: values", "what each completes"], 2)
     for i, (place, (chunks, completes)) in enumerate(table, 1):
@@ -663,34 +663,34 @@ def edges(q, paper):
         for chunk in chunks.split("; "):
             number, total, first, values = inside(place, chunk, r"^(\d+), (\d+), (\d+): (.*)$")
             values = [] if values == "none" else floats_in(place, values)
-            given.append(f"chunkOf {number} {total} {first} ({listed(values)})")
+            given.append(f"chunk_of {number} {total} {first} ({listed(values)})")
         wanted = []
         for each in completes.split("; "):
             values = None if each == "none" else floats_in(place, each)
             wanted += [WORDS["none"]] if values is None else [len(values)] + values
-        q.add(f"receiver-chunks-row-{i}", place, "completed (" + "".join(f"{g} ∷ " for g in given) + "[]) none", wanted)
+        q.add(f"receiver_chunks_row_{i}", place, "completed (" + "".join(f"{g} ∷ " for g in given) + "[]) none", wanted)
 
     section = "What a completed row does"
     for i, (place, (row, floor, top)) in enumerate(paper.table(section, ["row", "floor", "top"], 2), 1):
         r = of_bits(floats_in(place, row))
-        q.add(f"receiver-floor-top-row-{i}", place, f"Floats.toBits (Scaling.rowFloor {r}) ∷ Floats.toBits (Scaling.rowTop {r}) ∷ []",
+        q.add(f"receiver_floor_top_row_{i}", place, f"Floats.to_bits (Scaling.row_floor {r}) ∷ Floats.to_bits (Scaling.row_top {r}) ∷ []",
               [float_bits(place, floor), float_bits(place, top)], form="hex")
     table = paper.table(section, ["row", "estimates of top, floor before", "top, floor, range after"], 1)
     for i, (place, (row, before, after)) in enumerate(table, 1):
         r = of_bits(floats_in(place, row))
         top, floor = floats_in(place, before)
-        d = (f"(record {{ adaptive = true; top = Floats.f0; range = Floats.f0; zoom = Floats.f1; smoothing = Floats.f0; topEstimate = Floats.fromBits {top}; "
-             f"floorEstimate = Floats.fromBits {floor}; rangeEstimate = Floats.f0 }})")
-        e = f"(Scaling.displayAfter {r} {d})"
-        q.add(f"receiver-estimates-row-{i}", place, f"Floats.toBits ({e} .topEstimate) ∷ Floats.toBits ({e} .floorEstimate) ∷ Floats.toBits ({e} .rangeEstimate) ∷ []",
+        d = (f"(record {{ adaptive = true; top = Floats.f0; range = Floats.f0; zoom = Floats.f1; smoothing = Floats.f0; top_estimate = Floats.from_bits {top}; "
+             f"floor_estimate = Floats.from_bits {floor}; range_estimate = Floats.f0 }})")
+        e = f"(Scaling.display_after {r} {d})"
+        q.add(f"receiver_estimates_row_{i}", place, f"Floats.to_bits ({e}.top_estimate) ∷ Floats.to_bits ({e}.floor_estimate) ∷ Floats.to_bits ({e}.range_estimate) ∷ []",
               floats_in(place, after), form="hex")
     for i, (place, (weight, old, row, after)) in enumerate(paper.table(section, ["smoothing", "buffer", "row", "buffer after"], 4), 1):
-        q.add(f"receiver-smoothing-row-{i}", place,
-              f"floats (Scaling.smoothingAfter (Floats.fromBits {float_bits(place, weight)}) {of_bits([hexadecimal(place, row)])} {of_bits([hexadecimal(place, old)])})",
+        q.add(f"receiver_smoothing_row_{i}", place,
+              f"floats (Scaling.smoothing_after (Floats.from_bits {float_bits(place, weight)}) {of_bits([hexadecimal(place, row)])} {of_bits([hexadecimal(place, old)])})",
               [hexadecimal(place, after)], form="hex")
     for i, (place, (value, top, span, level)) in enumerate(paper.table(section, ["value in bits", "top", "range", "level"], 5), 1):
-        q.add(f"receiver-levels-row-{i}", place,
-              f"Picture.dbToU8 (Floats.fromBits {hexadecimal(place, value)}) (Floats.fromBits {float_bits(place, top)}) (Floats.fromBits {float_bits(place, span)}) ∷ []",
+        q.add(f"receiver_levels_row_{i}", place,
+              f"Picture.db_to_u8 (Floats.from_bits {hexadecimal(place, value)}) (Floats.from_bits {float_bits(place, top)}) (Floats.from_bits {float_bits(place, span)}) ∷ []",
               [whole(place, level)])
 
     for i, (place, (probes, *left)) in enumerate(paper.table("Clock", ["probes (offset, round trip), in turn", "offset", "round trip", "least"], 1), 1):
@@ -698,18 +698,18 @@ def edges(q, paper):
         for o, r in zip(given[::2], given[1::2]):
             t = f"(Clock.probed ({integer(o)}) ({integer(r)}) {t})"
         offset, trip, least = (whole(place, c) for c in left)
-        q.add(f"receiver-timing-row-{i}", place, f"timingOffset {t} ++ (timingOr (λ k. k .roundTrip) {t} ∷ timingOr (λ k. k .least) {t} ∷ [])", signed(offset) + [trip, least])
+        q.add(f"receiver_timing_row_{i}", place, f"timing_offset {t} ++ (timing_or (λ k. k.round_trip) {t} ∷ timing_or (λ k. k.least) {t} ∷ [])", signed(offset) + [trip, least])
     for i, (place, (samples, *left)) in enumerate(paper.table("Clock", ["samples, in turn", "average", "peak", "transmit peak"], 3), 1):
-        k, t = "Clock.freshClock", "Clock.freshClock"
+        k, t = "Clock.fresh_clock", "Clock.fresh_clock"
         for n in wholes(place, samples):
-            k = f"(Clock.recordDepth {n} (record {{ conceals = 0; late = 0; overflow = 0; resyncs = 0 }}) {k})"
-            t = f"(Clock.recordTransmit {n} {t})"
-        q.add(f"receiver-depths-row-{i}", place, f"Floats.toBits (Clock.depthMs {k}) ∷ Floats.toBits (Clock.depthPeakMs {k}) ∷ Floats.toBits ({t} .transmitPeak) ∷ []",
+            k = f"(Clock.record_depth {n} (record {{ conceals = 0; late = 0; overflow = 0; resyncs = 0 }}) {k})"
+            t = f"(Clock.record_transmit {n} {t})"
+        q.add(f"receiver_depths_row_{i}", place, f"Floats.to_bits (Clock.depth_ms {k}) ∷ Floats.to_bits (Clock.depth_peak_ms {k}) ∷ Floats.to_bits ({t}.transmit_peak) ∷ []",
               [hexadecimal(place, c) for c in left], form="hex")
 
 
 def integer(n):
-    return f"negℤ (pos {-n})" if n < 0 else f"pos {n}"
+    return f"neg_ℤ (pos {-n})" if n < 0 else f"pos {n}"
 
 
 def program(q, paper):
@@ -719,10 +719,10 @@ def program(q, paper):
     floats, words, most = (whole(place, g) for g in groups[:3])
     for n in groups[3].split()[1:]:
         whole(place, n)
-    q.add("receiver-program-areas", place, "Replay.replayAreas .floats ∷ Replay.replayAreas .words ∷ []", [floats, words])
-    q.add("receiver-program-longer", place, f"Replay.replay (replicate {most + 1} 0)", list(groups[3].encode()) + [10], form="text")
+    q.add("receiver_program_areas", place, "Replay.replay_areas.floats ∷ Replay.replay_areas.words ∷ []", [floats, words])
+    q.add("receiver_program_longer", place, f"Replay.replay (replicate {most + 1} 0)", list(groups[3].encode()) + [10], form="text")
     # the longest tape is read: one of zeros is refused at its first word
-    q.add("receiver-program-longest", place, f"Replay.replay (replicate {most} 0)", list(b"X 11 0\n"), form="text")
+    q.add("receiver_program_longest", place, f"Replay.replay (replicate {most} 0)", list(b"X 11 0\n"), form="text")
 
     counters = dict(zip(["received", "inserted", "concealed", "late", "overflow", "invalid size", "resyncs", "filled"], range(11, 19)))
     streams = {f"{what} of {stream}": 20 + 10 * stream + k for stream in (1, 2) for k, what in enumerate(("packets", "dropped", "late"))}
@@ -732,12 +732,12 @@ def program(q, paper):
     for i, (place, (letters, words, when)) in enumerate(paper.table("Replay", ["line", "words behind the letter", "printed"], 6), 1):
         for letter in letters.split(", "):
             seen.append(letter)
-            name = f"receiver-lines-row-{i}-{letter}"
+            name = f"receiver_lines_row_{i}_{letter}"
             if letter in ("A", "B"):
-                left = f"Replay.channelLine {letter} counters"
+                left = f"Replay.channel_line {letter} counters"
                 shown = [counters.get(w) for w in words.split(", ")]
             elif letter == "I":
-                left = "Replay.incomingLine counting"
+                left = "Replay.incoming_line counting"
                 shown, what = [], ""
                 for w in re.split(r"; |, ", words):
                     what = w.split(" of ")[0] if " of " in w and not w.startswith("of ") else what
@@ -745,19 +745,19 @@ def program(q, paper):
                     # 0 where there is no such stream
                     shown.append(10 if w == "incoming" else streams.get(f"{what} of {whole(place, stream.group(1))}", 0) if stream else None)
             elif letter == "C":
-                left = "Replay.clockLine told"
+                left = "Replay.clock_line told"
                 shown = [clocks.get(w) for w in words.replace(", in nanoseconds, each `-` where there is none", "").split(", ")]
-                q.add(f"{name}-none", place, "Replay.clockLine (start .clock)", list(b"C" + b" -" * len(shown) + b"\n"), form="text")
+                q.add(f"{name}_none", place, "Replay.clock_line start.clock", list(b"C" + b" -" * len(shown) + b"\n"), form="text")
             elif letter == "P":
-                left = "Replay.playLine B heard"
+                left = "Replay.play_line B heard"
                 if not words.endswith(", then the bits of each sample"):
                     raise CannotRun(f"{place}: '{words}' cannot be read")
                 shown = ["B" if w == "channel" else heard.get(w) for w in words.removesuffix(", then the bits of each sample").split(", ")] + ["3f800000", "bf800000"]
             elif letter == "W":
-                left = "Replay.rowLine B (heard .samples)"
+                left = "Replay.row_line B heard.samples"
                 shown = ["B", "3f800000", "bf800000"] if words == "channel, then the bits of each value" else [None]
             elif letter == "X":
-                left = "Replay.refusedLine 9"
+                left = "Replay.refused_line 9"
                 shown = [9] if words == "the refusal's number" else [None]
             else:
                 shown = [None]
@@ -765,7 +765,7 @@ def program(q, paper):
                 raise CannotRun(f"{place}: '{words}' cannot be read")
             q.add(name, place, left, list((" ".join(map(str, [letter] + shown)) + "\n").encode()), form="text")
     place, (last,) = paper.sentence("Replay", r"The four last lines come in the order ([A-Z, ]+)\.", "the last lines")
-    q.add("receiver-last-lines", place, "letters (Replay.closingLines start)", list(last.replace(", ", "").encode()), form="text")
+    q.add("receiver_last_lines", place, "letters (Replay.closing_lines start)", list(last.replace(", ", "").encode()), form="text")
     if sorted(seen) != sorted("PWXABIC"):
         raise CannotRun(f"{paper.name}, table line | words behind the letter | printed: its lines are not P, W, X, A, B, I, C")
 
@@ -773,16 +773,16 @@ def program(q, paper):
 # ---- the tape
 
 HEADS = {
-    "the end": (["endWord"], None),
-    "a datagram of n bytes": (["callWord (datagramHead n)"], "datagramHead n"),
-    "play n samples": (["callWord (playHead A n)", "callWord (playHead B n)"], "playHead A n"),
-    "reset": (["callWord (resetHead A)", "callWord (resetHead B)"], "resetHead A"),
-    "set": (["callWord (setHead A a)", "callWord (setHead B a)"], "setHead A a"),
-    "probe": (["callWord probeHead"], "probeHead"),
-    "one-way": (["callWord oneWayHead"], "oneWayHead"),
-    "depth": (["callWord depthHead"], "depthHead"),
-    "transmit depth": (["callWord transmitHead"], "transmitHead"),
-    "the setup": (["setupWord"], None),
+    "the end": (["end_word"], None),
+    "a datagram of n bytes": (["call_word (datagram_head n)"], "datagram_head n"),
+    "play n samples": (["call_word (play_head A n)", "call_word (play_head B n)"], "play_head A n"),
+    "reset": (["call_word (reset_head A)", "call_word (reset_head B)"], "reset_head A"),
+    "set": (["call_word (set_head A a)", "call_word (set_head B a)"], "set_head A a"),
+    "probe": (["call_word probe_head"], "probe_head"),
+    "one-way": (["call_word one_way_head"], "one_way_head"),
+    "depth": (["call_word depth_head"], "depth_head"),
+    "transmit depth": (["call_word transmit_head"], "transmit_head"),
+    "the setup": (["setup_word"], None),
 }
 
 
@@ -804,7 +804,7 @@ def first_words(q, paper):
         only = re.search(r", at place (\d+) only$", what)
         if only:
             what = what[:only.start()]
-            q.add(f"tape-first-words-row-{i}-place", place, f"getD (Tape.setupWords given) {whole(place, only.group(1))} 0 ∷ []",
+            q.add(f"tape_first_words_row_{i}_place", place, f"get_or (Tape.setup_words given) {whole(place, only.group(1))} 0 ∷ []",
                   [int(shown.strip("`"), 16)], form="hex")
         kind = whole(place, kind)
         makers, head = HEADS[what]
@@ -816,11 +816,11 @@ def first_words(q, paper):
             counted(place, pattern, r"[0-9A-F]{8}|[0-9A-F]{4}nnnn|[0-9A-F]{7}a", str)
             for n in (0, 1, 20, 65535) if "n" in pattern else (0, 1) if "a" in pattern else (0,):
                 word = int(pattern.replace("nnnn", f"{n:04X}").replace("a", str(n)), 16)
-                made = f"wordOf ({maker.replace(' n)', f' {n})').replace(' a)', ' true)' if n else ' false)')})"
+                made = f"word_of ({maker.replace(' n)', f' {n})').replace(' a)', ' true)' if n else ' false)')})"
                 left += [made, f"{made} / 2 ^ 29"]
                 right += [word, kind]
                 words.append(word)
-        q.add(f"tape-first-words-row-{i}", place, "".join(f"{e} ∷ " for e in left) + "[]", right)
+        q.add(f"tape_first_words_row_{i}", place, "".join(f"{e} ∷ " for e in left) + "[]", right)
         # a bit of a field can be 1, a bit that says which call it is has one value, and every other below the kind is 0
         free, fixed = set(), {}
         for text in [] if named == "none" else named.split("; "):
@@ -835,27 +835,27 @@ def first_words(q, paper):
                 fixed[first], fixed[second] = values[0], values[-1]
                 for b, value in fixed.items():
                     telling.setdefault(b, {})[place] = value
-                q.add(f"tape-first-words-row-{i}-fixed", place,
-                      "".join(f"wordOf ({makers[0]}) / 2 ^ {b} % 2 ∷ " for b in (first, second)) + "[]", [values[0], values[-1]])
+                q.add(f"tape_first_words_row_{i}_fixed", place,
+                      "".join(f"word_of ({makers[0]}) / 2 ^ {b} % 2 ∷ " for b in (first, second)) + "[]", [values[0], values[-1]])
             else:
                 raise CannotRun(f"{place}: '{text}' cannot be read")
         stray = [b for b in range(29) if b not in free and b not in fixed]
         tried = words + [words[0] + 2**b for b in sorted(free)] + [words[0] + 2**b for b in stray]
-        q.add(f"tape-first-words-row-{i}-bits", place, f"map (λ w. known (wordIn w)) ({listed(tried)})", [1] * (len(words) + len(free)) + [0] * len(stray))
-        name = f"tape-first-words-row-{i}-follow"
+        q.add(f"tape_first_words_row_{i}_bits", place, f"map (λ w. known (word_in w)) ({listed(tried)})", [1] * (len(words) + len(free)) + [0] * len(stray))
+        name = f"tape_first_words_row_{i}_follow"
         share = re.fullmatch(r"n / (\d+), rounded up", follow)
         if share and "n" in head.split():
             d = whole(place, share.group(1))
-            q.add(name, place, "".join(f"bodyLength ({head.replace(' n', f' {n}')}) ∷ " for n in (0, 1, 2, 3, 4, 5, 65535)) + "[]",
+            q.add(name, place, "".join(f"body_length ({head.replace(' n', f' {n}')}) ∷ " for n in (0, 1, 2, 3, 4, 5, 65535)) + "[]",
                   [-(-n // d) for n in (0, 1, 2, 3, 4, 5, 65535)])
             continue
         n = whole(place, inside(place, follow, r"^(\d+)(, and the tape ends here)?$")[0])
         if what == "the end":
-            q.add(name, place, f"body (find false (wordOf endWord ∷ replicate {n} 0)) ++ body (find false (wordOf endWord ∷ replicate {n + 1} 0))", [1, 2, 1])
+            q.add(name, place, f"body (find false (word_of end_word ∷ replicate {n} 0)) ++ body (find false (word_of end_word ∷ replicate {n + 1} 0))", [1, 2, 1])
         elif what == "the setup":
-            q.add(name, place, "Tape.setupLength ∷ []", [n])
+            q.add(name, place, "Tape.setup_length ∷ []", [n])
         else:
-            q.add(name, place, f"bodyLength ({head.replace(' n', ' 20').replace(' a', ' true')}) ∷ []", [n])
+            q.add(name, place, f"body_length ({head.replace(' n', ' 20').replace(' a', ' true')}) ∷ []", [n])
     for b, values in telling.items():
         if set(values.values()) != {0, 1}:
             q.differing += [f"{place}: bit {b} tells no two calls apart" for place in values]
@@ -864,13 +864,13 @@ def first_words(q, paper):
 def bodies(q, paper):
     table = paper.table("The words behind a first word", ["After", "Words"], 7)
     known = {
-        "setup": "Tape.setupBody (record { sizes = record { packet = @packet; target = @target; max = @max; bins = @bins; width = @width; height = @height }; "
-                 "estimatesA = record { top = @top·A; floor = @floor·A; range = @range·A }; estimatesB = record { top = @top·B; floor = @floor·B; range = @range·B } })",
-        "set": "Tape.bodyOf (set A (record { adaptive = true; top = @top; range = @range; zoom = @zoom; smoothing = @smoothing }))",
-        "probe": "Tape.bodyOf (probe @t1 @t2 @t3 @t4)",
-        "one-way": "Tape.bodyOf (oneWay @receive @send)",
-        "depth": "Tape.bodyOf (depth @samples (record { conceals = @conceals; late = @late; overflow = @overflow; resyncs = @resyncs }))",
-        "transmit depth": "Tape.bodyOf (transmitDepth @samples)",
+        "setup": "Tape.setup_body (record { sizes = record { packet = @packet; target = @target; max = @max; bins = @bins; width = @width; height = @height }; "
+                 "estimates_a = record { top = @top·A; floor = @floor·A; range = @range·A }; estimates_b = record { top = @top·B; floor = @floor·B; range = @range·B } })",
+        "set": "Tape.body_of (set A (record { adaptive = true; top = @top; range = @range; zoom = @zoom; smoothing = @smoothing }))",
+        "probe": "Tape.body_of (probe @t1 @t2 @t3 @t4)",
+        "one-way": "Tape.body_of (one_way @receive @send)",
+        "depth": "Tape.body_of (depth @samples (record { conceals = @conceals; late = @late; overflow = @overflow; resyncs = @resyncs }))",
+        "transmit depth": "Tape.body_of (transmit_depth @samples)",
         "datagram": None,
     }
     if sorted(c[0] for p, c in table) != sorted(known):
@@ -895,34 +895,34 @@ def bodies(q, paper):
                 wanted += [value // 2**(32 * j) % 2**32 for j in reversed(range(width))]
         if "@" in left:
             raise CannotRun(f"{place}: {', '.join(re.findall(r'@([^ ;)]+)', left))} missing")
-        q.add(f"tape-bodies-row-{i}", place, left, wanted)
+        q.add(f"tape_bodies_row_{i}", place, left, wanted)
 
 
 def rules(q, paper):
     section = "What is accepted, and the place of a refusal"
     place, (least,) = paper.sentence(section, r"Fewer than (\d+) words follow the setup's first word", "the setup's words")
     # a setup whose words are all 1, and the end: with a word more or less it is refused
-    accepted = lambda n: (f"readAs (read (bytesOf (wordOf setupWord ∷ replicate {n} 1 ++ (0 ∷ []))))", [1] * n)
+    accepted = lambda n: (f"read_as (read (bytes_of (word_of setup_word ∷ replicate {n} 1 ++ (0 ∷ []))))", [1] * n)
     n = whole(place, least)
-    q.add("tape-setup-words", place, *accepted(n))
-    q.add("tape-setup-words-fewer", place, f"readAs (read (bytesOf (wordOf setupWord ∷ replicate {n - 1} 1)))", [11, n])
+    q.add("tape_setup_words", place, *accepted(n))
+    q.add("tape_setup_words_fewer", place, f"read_as (read (bytes_of (word_of setup_word ∷ replicate {n - 1} 1)))", [11, n])
     place, (first,) = paper.sentence(section, r"where a call or the end may begin, the first of which is (\d+)", "the first call's place")
-    q.add("tape-first-call", place, *accepted(whole(place, first) - 1))
+    q.add("tape_first_call", place, *accepted(whole(place, first) - 1))
     place, groups = paper.sentence(
         "Writing", r"n of a datagram or a play is at most ([\d,]+); a size, and the samples of a depth or transmit depth, at most ([\d,]+)\. Times and counts have (\d+) bits",
         "the fields' bounds")
     n, samples, times = (whole(place, g) for g in groups)
     counts = lambda v: "(record { " + "; ".join(f"{f} = {v}" for f in ("conceals", "late", "overflow", "resyncs")) + " })"
-    made = lambda v: f"(Tape.setupOf ({listed([v] * 12)}))"
+    made = lambda v: f"(Tape.setup_of ({listed([v] * 12)}))"
     tried = [lambda v, c=c: c.replace("@", str(v)) for c in ("datagram (replicate @ 0)", "play A @")]
-    left = [f"Tape.callFits ({t(v)})" for t in tried for v in (n, n + 1)]
-    left += [f"Tape.callFits ({c})" for v in (samples, samples + 1) for c in (f"depth {v} {counts(0)}", f"transmitDepth {v}")]
-    left += [f"Tape.setupFits {made(v)}" for v in (samples, samples + 1)]
-    left += [f"Tape.callFits ({c})" for v in (2**times - 1, 2**times) for c in (f"probe {v} 0 0 0", f"oneWay 0 {v}", f"depth 0 {counts(v)}")]
-    q.add("tape-fields", place, "bits (" + "".join(f"{e} ∷ " for e in left) + "[])", [1, 0, 1, 0, 1, 1, 0, 0, 1, 0, 1, 1, 1, 0, 0, 0])
+    left = [f"Tape.call_fits ({t(v)})" for t in tried for v in (n, n + 1)]
+    left += [f"Tape.call_fits ({c})" for v in (samples, samples + 1) for c in (f"depth {v} {counts(0)}", f"transmit_depth {v}")]
+    left += [f"Tape.setup_fits {made(v)}" for v in (samples, samples + 1)]
+    left += [f"Tape.call_fits ({c})" for v in (2**times - 1, 2**times) for c in (f"probe {v} 0 0 0", f"one_way 0 {v}", f"depth 0 {counts(v)}")]
+    q.add("tape_fields", place, "bits (" + "".join(f"{e} ∷ " for e in left) + "[])", [1, 0, 1, 0, 1, 1, 0, 0, 1, 0, 1, 1, 1, 0, 0, 0])
     place, (most,) = paper.sentence("Words", r"the limit of ([\d,]+) bytes is that of the program", "the program's limit")
     m = whole(place, most)
-    q.add("tape-program-limit", place, f"Replay.replay (replicate {m} 0) ++ Replay.replay (replicate {m + 1} 0)",
+    q.add("tape_program_limit", place, f"Replay.replay (replicate {m} 0) ++ Replay.replay (replicate {m + 1} 0)",
           list(f"X 11 0\nX 11 {m // 4}\n".encode()), form="text")
 
 
@@ -941,8 +941,8 @@ def worked_tape(q, paper, magic):
         raise CannotRun(f"{place}: no datagram has such numbers")
     data = list(struct.pack(">HBBIQ", magic, version, stream, sequence, timestamp) + struct.pack("<hh", one, other))
     setup = [packet, target, most, bins, pixels, 1] + [estimate] * 6
-    q.lines += ["tape : Tape.Tape", f"tape = madeOf ({listed(setup)}) (datagram ({listed(data)}) ∷ play {'AB'[channel]} {played} ∷ [])", "",
-                "tapeWords : List ℕ", "tapeWords = wordsOf (written′ (Tape.write tape))", ""]
+    q.lines += ["tape : Tape.Tape", f"tape = made_of ({listed(setup)}) (datagram ({listed(data)}) ∷ play {'AB'[channel]} {played} ∷ [])", "",
+                "tape_words : List ℕ", "tape_words = words_of (written' (Tape.write tape))", ""]
     table = paper.table(section, ["Place", "Word", ""], 21)
     words = []
     fields = ["packet", "target", "max", "bins", "width", "height"] + [f"{c}: {n}" for c in "AB" for n in ("top", "floor", "range")]
@@ -952,39 +952,39 @@ def worked_tape(q, paper, magic):
         if p != i:
             q.differing.append(f"{row_place}: the place is {i}, not {p}")
         # what the definitions write of the tape that the text says
-        q.add(f"tape-worked-row-{i + 1}", row_place, f"getD tapeWords {i} {WORDS['none']} ∷ []", [w], " tape tapeWords", "hex")
-        name = f"tape-worked-row-{i + 1}-note"
-        kind = f"({w}) / 2 ^ 29 ∷ word (wordIn {w})"
+        q.add(f"tape_worked_row_{i + 1}", row_place, f"get_or tape_words {i} {WORDS['none']} ∷ []", [w], " tape tape_words", "hex")
+        name = f"tape_worked_row_{i + 1}_note"
+        kind = f"({w}) / 2 ^ 29 ∷ word (word_in {w})"
         if note in fields:
             k = fields.index(note)
-            of = f".sizes .{note}" if k < 6 else f".estimates{note[0]} .{note[3:]}"
-            q.add(name, row_place, f"Tape.setupOf (Picture.countFrom 1 12) {of} ∷ []", [p])
+            of = f".sizes.{note}" if k < 6 else f".estimates_{note[0].lower()}.{note[3:]}"
+            q.add(name, row_place, f"(Tape.setup_of (Picture.count_from 1 12)){of} ∷ []", [p])
         elif re.fullmatch(r"kind \d+: the setup", note):
             q.add(name, row_place, kind, [whole(row_place, note[5:].split(":")[0]), 7])
         elif re.fullmatch(r"kind \d+: the end", note):
             q.add(name, row_place, kind, [whole(row_place, note[5:].split(":")[0]), 0])
         elif re.fullmatch(r"kind (\d+): a datagram of (\d+) bytes, so (\d+) words", note):
             k, n, follow = (whole(row_place, t) for t in re.findall(r"\d+", note))
-            q.add(name, row_place, f"{kind} ++ (bodyLength (datagramHead {n}) ∷ [])", [k, 1, n, follow])
+            q.add(name, row_place, f"{kind} ++ (body_length (datagram_head {n}) ∷ [])", [k, 1, n, follow])
         elif re.fullmatch(r"kind (\d+), bit (\d+) is (\d): play (\d+) samples of ([AB])", note):
             k, bit, value, n = (whole(row_place, t) for t in re.findall(r"\d+", note))
-            q.add(name, row_place, f"{kind} ++ ({w} / 2 ^ {bit} % 2 ∷ Tape.sideBit B ∷ [])", [k, 2, "AB".index(note[-1]), n, value, 2**bit])
+            q.add(name, row_place, f"{kind} ++ ({w} / 2 ^ {bit} % 2 ∷ Tape.side_bit B ∷ [])", [k, 2, "AB".index(note[-1]), n, value, 2**bit])
         elif re.fullmatch(r"bytes( [0-9A-F]{2}){4}", note):
-            q.add(name, row_place, f"bytesOf ({w} ∷ [])", [hexadecimal(row_place, t) for t in note.split()[1:]])
+            q.add(name, row_place, f"bytes_of ({w} ∷ [])", [hexadecimal(row_place, t) for t in note.split()[1:]])
         elif note:
             raise CannotRun(f"{row_place}: '{note}' cannot be read")
     all_words = f"({listed(words)})"
-    q.add("tape-worked", place, f"readAs (read (bytesOf {all_words}))", setup + [1, len(data)] + data + [2, channel, played])
-    q.add("tape-worked-length", place,
-          f"length tapeWords ∷ length (bytesOf tapeWords) ∷ length (wordsOf (bytesOf {all_words})) ∷ {len(data)} ∷ []",
-          [words_said, bytes_said, words_said, length], " tape tapeWords")
+    q.add("tape_worked", place, f"read_as (read (bytes_of {all_words}))", setup + [1, len(data)] + data + [2, channel, played])
+    q.add("tape_worked_length", place,
+          f"length tape_words ∷ length (bytes_of tape_words) ∷ length (words_of (bytes_of {all_words})) ∷ {len(data)} ∷ []",
+          [words_said, bytes_said, words_said, length], " tape tape_words")
 
     place, (n,) = paper.sentence(section, r"With a word, or one byte, behind it the tape is refused at place (\d+)\.", "more behind the end")
     n = whole(place, n)
-    q.add("tape-refused-behind", place, f"readAs (read (bytesOf {all_words} ++ replicate 4 0)) ++ readAs (read (bytesOf {all_words} ++ (0 ∷ [])))", [11, n, 11, n])
+    q.add("tape_refused_behind", place, f"read_as (read (bytes_of {all_words} ++ replicate 4 0)) ++ read_as (read (bytes_of {all_words} ++ (0 ∷ [])))", [11, n, 11, n])
     place, groups = paper.sentence(section, r"Cut to (\d+) bytes it has (\d+) whole words, and is refused at place (\d+)\.", "the tape cut")
     cut, whole_words, n = (whole(place, g) for g in groups)
-    q.add("tape-refused-cut", place, f"length (wordsOf (take {cut} (bytesOf {all_words}))) ∷ readAs (read (take {cut} (bytesOf {all_words})))", [whole_words, 11, n])
+    q.add("tape_refused_cut", place, f"length (words_of (take {cut} (bytes_of {all_words}))) ∷ read_as (read (take {cut} (bytes_of {all_words})))", [whole_words, 11, n])
     place, groups = paper.sentence(
         section, r"With `([0-9A-F]+)` at place (\d+) the datagram has (\d+) bytes and takes (\d+) words, the last of which is `([0-9A-F]+)`: its bytes ([0-9A-F ]+) are padding, "
         r"so the tape is refused at place (\d+)\.", "the padding")
@@ -992,12 +992,12 @@ def worked_tape(q, paper, magic):
     at, length, follow, n = (whole(place, groups[k]) for k in (1, 2, 3, 6))
     padding = [hexadecimal(place, t) for t in groups[5].split()]
     changed = f"({listed(words[:at] + [w] + words[at + 1:])})"
-    q.add("tape-refused-padding", place,
-          f"word (wordIn {w}) ++ (bodyLength (datagramHead {length}) ∷ getD {changed} {at + follow} 0 ∷ drop ({length} - 4 * ({follow} - 1)) (bytesOf ({last} ∷ [])) ++ "
-          f"readAs (read (bytesOf {changed})))", [1, length, follow, last] + padding + [11, n])
+    q.add("tape_refused_padding", place,
+          f"word (word_in {w}) ++ (body_length (datagram_head {length}) ∷ get_or {changed} {at + follow} 0 ∷ drop ({length} - 4 * ({follow} - 1)) (bytes_of ({last} ∷ [])) ++ "
+          f"read_as (read (bytes_of {changed})))", [1, length, follow, last] + padding + [11, n])
     place, groups = paper.sentence(section, r"With `([0-9A-F]+)` at place (\d+) it is refused there\.", "the stray bit")
     w, at = hexadecimal(place, groups[0]), whole(place, groups[1])
-    q.add("tape-refused-stray-bit", place, f"readAs (read (bytesOf ({listed(words[:at] + [w] + words[at + 1:])})))", [11, at])
+    q.add("tape_refused_stray_bit", place, f"read_as (read (bytes_of ({listed(words[:at] + [w] + words[at + 1:])})))", [11, at])
 
 
 # ---- running

@@ -7,51 +7,35 @@
 # sentence is not found or has too few rows.
 . "$(dirname "$0")/common.sh"
 command -v rt > /dev/null || { echo "rt is not on the PATH: install the Rattle toolchain, and put the folder of its rt on the PATH" >&2; exit 2; }
-mkdir -p "$work/model/src" "$work/model/proofs"
-: > "$work/model/src/lib.rt"
-cp -r "$root/crates/model/specs" "$work/model/specs"
-# the definitions alone, then the papers' equations in place of the facts
-for facts in WholeList Sessions Values Asked HeldStates Printed; do
-  rm -f "$work/model/specs/$facts.antt"
-  sed -i "/^pub mod $facts\$/d" "$work/model/specs/Lib.antt"
-done
-echo 'pub mod Papers' >> "$work/model/specs/Lib.antt"
-module="$work/model/specs/Papers.antt"
+definitions
 cat > "$module" <<'ANTT'
-use mathlib.Core.Path.{_≡_, refl}
-use Prim.Native.Nat.{ℕ, zero, suc, _+_, _-_, _*_, _/_, _%_, _^_}
-use mathlib.Core.Bool.{Bool, true, false, cond}
-use mathlib.Core.Option.{Option, none, some}
-use mathlib.Core.List.{List, [], _∷_, _++_, map, reverse}
-use lib.ListN.{length, take, drop, replicate, getD}
-use lib.IntN.{ℤ, pos, negsuc, negℤ}
-use lib.Dec.{eqb}
-use lib.Ieee.{Float}
-use Rattle·model·specs.specs.Bytes.{bigEndianBytes}
-use Rattle·model·specs.specs.Floats as Floats
-use Rattle·model·specs.specs.Floats.{_/f_}
-use Rattle·model·specs.specs.Sizes as Sizes
-use Rattle·model·specs.specs.Framing as Framing
-use Rattle·model·specs.specs.Framing.{Side, A, B}
-use Rattle·model·specs.specs.Counts as Counts
-use Rattle·model·specs.specs.Samples as Samples
-use Rattle·model·specs.specs.JitterBuffer as Jitter
-use Rattle·model·specs.specs.JitterBuffer.{Buffer, Played}
-use Rattle·model·specs.specs.Row as Row
-use Rattle·model·specs.specs.Picture as Picture
-use Rattle·model·specs.specs.Scaling as Scaling
-use Rattle·model·specs.specs.Clock as Clock
-use Rattle·model·specs.specs.Receiver.{Estimates, Setup, State, Lent, Call, datagram, play, reset, set, probe, oneWay, depth, transmitDepth, fresh}
-use Rattle·model·specs.specs.Questions.{Question, firstNo, questions, setupQuestions}
-use Rattle·model·specs.specs.Tape as Tape
-use Rattle·model·specs.specs.Tape.{Head, datagramHead, playHead, resetHead, setHead, probeHead, oneWayHead, depthHead, transmitHead, Word, setupWord, callWord, endWord, wordOf, wordIn, bodyLength, Found, foundCall, foundEnd, foundBad, find, TapeRead, readTape, badTape, read, Written, written, tooLarge, wordsOf, bytesOf}
-use Rattle·model·specs.specs.Replay as Replay
-use Rattle·model·specs.specs.Computes.{computes}
+use Rattle.std.specs.Prelude.{◌≡◌, refl, ℕ, zero, suc, ◌+◌, ◌-◌, ◌*◌, ◌/◌, ◌%◌, ◌^◌, Bool, true, false, cond, eqb, List, [], ◌∷◌, ◌++◌, map, reverse, length, take, drop, replicate, get_or, ℤ, pos, negsuc, neg_ℤ, Float}
+use Rattle.std.proofs.Math.Option.{Option, none, some}
+use Rattle.model.specs.Bytes.{big_endian_bytes}
+use Rattle.model.specs.Floats as Floats
+use Rattle.model.specs.Floats.{◌/f◌}
+use Rattle.model.specs.Sizes as Sizes
+use Rattle.model.specs.Framing as Framing
+use Rattle.model.specs.Framing.{Side, A, B}
+use Rattle.model.specs.Counts as Counts
+use Rattle.model.specs.Samples as Samples
+use Rattle.model.specs.JitterBuffer as Jitter
+use Rattle.model.specs.JitterBuffer.{Buffer, Played}
+use Rattle.model.specs.Row as Row
+use Rattle.model.specs.Picture as Picture
+use Rattle.model.specs.Scaling as Scaling
+use Rattle.model.specs.Clock as Clock
+use Rattle.model.specs.Receiver.{Estimates, Setup, State, Lent, Call, datagram, play, reset, set, probe, one_way, depth, transmit_depth, fresh}
+use Rattle.model.specs.Questions.{Question, first_no, questions, setup_questions}
+use Rattle.model.specs.Tape as Tape
+use Rattle.model.specs.Tape.{Head, datagram_head, play_head, reset_head, set_head, probe_head, one_way_head, depth_head, transmit_head, Word, setup_word, call_word, end_word, word_of, word_in, body_length, Found, found_call, found_end, found_bad, find, TapeRead, read_tape, bad_tape, read, Written, written, too_large, words_of, bytes_of}
+use Rattle.model.specs.Replay as Replay
+use Rattle.model.proofs.Computes.{computes}
 
 -- ---- words as numbers: papers.py has the same
 
-none′ : ℕ
-none′ = 2 ^ 80
+none' : ℕ
+none' = 2 ^ 80
 
 empty : ℕ
 empty = 2 ^ 81
@@ -77,33 +61,33 @@ signed (pos n) = 0 ∷ n ∷ []
 signed (negsuc n) = 1 ∷ suc n ∷ []
 
 floats : List Float → List ℕ
-floats xs = map (λ x. Floats.toBits x) xs
+floats xs = map (λ x. Floats.to_bits x) xs
 
 -- ---- what is absent or empty
 
-orNone : Option ℕ → ℕ
-orNone none = none′
-orNone (some n) = n
+or_none : Option ℕ → ℕ
+or_none none = none'
+or_none (some n) = n
 
-signedOr : Option ℤ → ℕ
-signedOr none = none′
-signedOr (some n) = Clock.bits64 n
+signed_or : Option ℤ → ℕ
+signed_or none = none'
+signed_or (some n) = Clock.bits64 n
 
-rowOr : Option Row.Row → ℕ
-rowOr none = none′
-rowOr (some r) = r .number
+row_or : Option Row.Row → ℕ
+row_or none = none'
+row_or (some r) = r.number
 
-timingOr : (Clock.Timing → ℕ) → Option Clock.Timing → ℕ
-timingOr f none = none′
-timingOr f (some t) = f t
+timing_or : (Clock.Timing → ℕ) → Option Clock.Timing → ℕ
+timing_or f none = none'
+timing_or f (some t) = f t
 
-depthOr : Option Clock.Depth → ℕ
-depthOr none = none′
-depthOr (some d) = Floats.toBits (d .average)
+depth_or : Option Clock.Depth → ℕ
+depth_or none = none'
+depth_or (some d) = Floats.to_bits d.average
 
-lengthOr : {X : Type 0} → List X → ℕ
-lengthOr [] = empty
-lengthOr (x ∷ xs) = suc (length xs)
+length_or : {X : Type 0} → List X → ℕ
+length_or [] = empty
+length_or (x ∷ xs) = suc (length xs)
 
 -- ---- a receiver
 
@@ -115,88 +99,88 @@ zs : Sizes.Sizes
 zs = sized 3 5 10 7 2 3
 
 lent : Lent
-lent = record { floats = Sizes.floatArea zs; words = Sizes.wordArea zs }
+lent = record { floats = Sizes.float_area zs; words = Sizes.word_area zs }
 
 -- the estimates 1, 2, 3 of A and 4, 5, 6 of B
 given : Setup
 given =
     record {
       sizes = zs;
-      estimatesA = record { top = 0x3f800000; floor = 0x40000000; range = 0x40400000 };
-      estimatesB = record { top = 0x40800000; floor = 0x40a00000; range = 0x40c00000 };
+      estimates_a = record { top = 0x3f800000; floor = 0x40000000; range = 0x40400000 };
+      estimates_b = record { top = 0x40800000; floor = 0x40a00000; range = 0x40c00000 };
     }
 
 start : State
 start = fresh given
 
-withCalls : ℕ → State → State
-withCalls n s =
-    record { sizes = s .sizes; calls = n; incoming = s .incoming; counts = s .counts; channelA = s .channelA; channelB = s .channelB; clock = s .clock }
+with_calls : ℕ → State → State
+with_calls n s =
+    record { sizes = s.sizes; calls = n; incoming = s.incoming; counts = s.counts; channel_a = s.channel_a; channel_b = s.channel_b; clock = s.clock }
 
-withIncoming : ℕ → State → State
-withIncoming n s =
-    record { sizes = s .sizes; calls = s .calls; incoming = n; counts = s .counts; channelA = s .channelA; channelB = s .channelB; clock = s .clock }
+with_incoming : ℕ → State → State
+with_incoming n s =
+    record { sizes = s.sizes; calls = s.calls; incoming = n; counts = s.counts; channel_a = s.channel_a; channel_b = s.channel_b; clock = s.clock }
 
-withSizes : Sizes.Sizes → State → State
-withSizes z s =
-    record { sizes = z; calls = s .calls; incoming = s .incoming; counts = s .counts; channelA = s .channelA; channelB = s .channelB; clock = s .clock }
+with_sizes : Sizes.Sizes → State → State
+with_sizes z s =
+    record { sizes = z; calls = s.calls; incoming = s.incoming; counts = s.counts; channel_a = s.channel_a; channel_b = s.channel_b; clock = s.clock }
 
 -- ---- questions
 
 refusal : State → Call → ℕ
-refusal s c = orNone (firstNo (questions lent s c))
+refusal s c = or_none (first_no (questions lent s c))
 
 numbers : List Question → List ℕ
 numbers [] = []
-numbers (q ∷ qs) = q .number ∷ numbers qs
+numbers (q ∷ qs) = q.number ∷ numbers qs
 
 asks : ℕ → List Question → ℕ
 asks n [] = 0
-asks n (q ∷ qs) = cond (eqb n (q .number)) 1 (asks n qs)
+asks n (q ∷ qs) = cond (eqb n q.number) 1 (asks n qs)
 
 -- what each call asks, in the order of the paper's table of calls
 asked : List (List Question)
 asked =
-    setupQuestions lent given
+    setup_questions lent given
     ∷ map (questions lent start)
     (datagram (replicate 16 0)
     ∷ play A 1
     ∷ reset A
     ∷ set A (record { adaptive = false; top = 0; range = 0; zoom = 0; smoothing = 0 })
     ∷ probe 0 0 0 0
-    ∷ oneWay 0 0
+    ∷ one_way 0 0
     ∷ depth 0 (record { conceals = 0; late = 0; overflow = 0; resyncs = 0 })
-    ∷ transmitDepth 0
+    ∷ transmit_depth 0
     ∷ [])
 
-streamCode : Framing.Stream → ℕ
-streamCode (Framing.audio s) = 10 + side s
-streamCode (Framing.waterfall s) = 20 + side s
-streamCode Framing.otherStream = 0
+stream_code : Framing.Stream → ℕ
+stream_code (Framing.audio s) = 10 + side s
+stream_code (Framing.waterfall s) = 20 + side s
+stream_code Framing.other_stream = 0
 
 -- ---- sound: sample i of sequence s is 1000 × s + i, and the filler is 0
 
-pushOne : Sizes.Sizes → ℕ → Buffer ℕ → Buffer ℕ
-pushOne z s b = Jitter.push 0 z (record { sequence = s; samples = Picture.countFrom (1000 * s) (z .packet) }) b
+push_one : Sizes.Sizes → ℕ → Buffer ℕ → Buffer ℕ
+push_one z s b = Jitter.push 0 z (record { sequence = s; samples = Picture.count_from (1000 * s) z.packet }) b
 
 pushed : Sizes.Sizes → List ℕ → Buffer ℕ → Buffer ℕ
 pushed z [] b = b
-pushed z (s ∷ ss) b = pushed z ss (pushOne z s b)
+pushed z (s ∷ ss) b = pushed z ss (push_one z s b)
 
 -- after each push: inserted, late, overflow, concealed, next, and whether there is room
 pushes : Sizes.Sizes → List ℕ → Buffer ℕ → List ℕ
 pushes z [] b = []
 pushes z (s ∷ ss) b =
-    let c = pushOne z s b in
-    c .counters .inserted ∷ c .counters .late ∷ c .counters .overflow ∷ c .counters .concealed ∷ orNone (c .next) ∷ bit (Jitter.hasRoom z c) ∷ pushes z ss c
+    let c = push_one z s b in
+    c.counters.inserted ∷ c.counters.late ∷ c.counters.overflow ∷ c.counters.concealed ∷ or_none c.next ∷ bit (Jitter.has_room z c) ∷ pushes z ss c
 
 plays : Sizes.Sizes → List ℕ → Buffer ℕ → List (Played ℕ)
 plays z [] b = []
-plays z (n ∷ ns) b = let r = Jitter.play 0 z n b in r .answer ∷ plays z ns (r .after)
+plays z (n ∷ ns) b = let r = Jitter.play 0 z n b in r.answer ∷ plays z ns r.after
 
-afterPlays : Sizes.Sizes → List ℕ → Buffer ℕ → Buffer ℕ
-afterPlays z [] b = b
-afterPlays z (n ∷ ns) b = afterPlays z ns (Jitter.play 0 z n b .after)
+after_plays : Sizes.Sizes → List ℕ → Buffer ℕ → Buffer ℕ
+after_plays z [] b = b
+after_plays z (n ∷ ns) b = after_plays z ns (Jitter.play 0 z n b).after
 
 each : (Played ℕ → ℕ) → List (Played ℕ) → List ℕ
 each f [] = []
@@ -205,51 +189,51 @@ each f (p ∷ ps) = f p ∷ each f ps
 -- taken, dropped and short of each play, and inserted, concealed, resyncs, filled and largest after them
 session : Sizes.Sizes → List ℕ → List ℕ → List ℕ
 session z sequences ns =
-    let b = pushed z sequences Jitter.freshBuffer in
+    let b = pushed z sequences Jitter.fresh_buffer in
     let ps = plays z ns b in
-    let after = afterPlays z ns b in
-    let k = after .counters in
-    each (λ p. p .taken) ps
-    ++ (each (λ p. p .dropped) ps
-    ++ (each (λ p. p .short) ps ++ (k .inserted ∷ k .concealed ∷ k .resyncs ∷ k .filled ∷ after .largest ∷ [])))
+    let after = after_plays z ns b in
+    let k = after.counters in
+    each (λ p. p.taken) ps
+    ++ (each (λ p. p.dropped) ps
+    ++ (each (λ p. p.short) ps ++ (k.inserted ∷ k.concealed ∷ k.resyncs ∷ k.filled ∷ after.largest ∷ [])))
 
 -- ---- rows
 
-littleEndianWords : List ℕ → List ℕ
-littleEndianWords [] = []
-littleEndianWords (v ∷ vs) = reverse (bigEndianBytes 4 v) ++ littleEndianWords vs
+little_endian_words : List ℕ → List ℕ
+little_endian_words [] = []
+little_endian_words (v ∷ vs) = reverse (big_endian_bytes 4 v) ++ little_endian_words vs
 
 -- a chunk's payload: row number, total, first bin, values as bit patterns
-chunkOf : ℕ → ℕ → ℕ → List ℕ → List ℕ
-chunkOf number total first values =
-    bigEndianBytes 2 number ++ (bigEndianBytes 2 total ++ (bigEndianBytes 2 first ++ littleEndianWords values))
+chunk_of : ℕ → ℕ → ℕ → List ℕ → List ℕ
+chunk_of number total first values =
+    big_endian_bytes 2 number ++ (big_endian_bytes 2 total ++ (big_endian_bytes 2 first ++ little_endian_words values))
 
-valuesOr : Option (List Float) → List ℕ
-valuesOr none = none′ ∷ []
-valuesOr (some xs) = length xs ∷ floats xs
+values_or : Option (List Float) → List ℕ
+values_or none = none' ∷ []
+values_or (some xs) = length xs ∷ floats xs
 
 -- what each of the payloads completes, in turn
 completed : List (List ℕ) → Option Row.Row → List ℕ
 completed [] r = []
-completed (p ∷ ps) r = let x = Row.pushChunk p r in valuesOr (x .completed) ++ completed ps (x .row)
+completed (p ∷ ps) r = let x = Row.push_chunk p r in values_or x.completed ++ completed ps x.row
 
 -- ---- clock
 
-timingOffset : Option Clock.Timing → List ℕ
-timingOffset none = none′ ∷ []
-timingOffset (some t) = signed (t .offset)
+timing_offset : Option Clock.Timing → List ℕ
+timing_offset none = none' ∷ []
+timing_offset (some t) = signed t.offset
 
 -- the offset after each probe, of which offset and round trip are given in turn
 offsets : List ℤ → Option Clock.Timing → List ℕ
 offsets [] t = []
 offsets (o ∷ []) t = []
-offsets (o ∷ r ∷ rest) t = let after = Clock.probed o r t in timingOffset after ++ offsets rest after
+offsets (o ∷ r ∷ rest) t = let after = Clock.probed o r t in timing_offset after ++ offsets rest after
 
 -- ---- lines of replay: each number is another one
 
 counters : Jitter.Counters
 counters =
-    record { received = 11; inserted = 12; concealed = 13; late = 14; overflow = 15; invalidSize = 16; resyncs = 17; filled = 18 }
+    record { received = 11; inserted = 12; concealed = 13; late = 14; overflow = 15; invalid_size = 16; resyncs = 17; filled = 18 }
 
 counting : State
 counting =
@@ -261,50 +245,50 @@ counting =
         audio = record { packets = 30; dropped = 31; late = 32; last = none };
         waterfall = record { packets = 40; dropped = 41; late = 42; last = none };
       };
-      channelA = start .channelA;
-      channelB = start .channelB;
-      clock = start .clock;
+      channel_a = start.channel_a;
+      channel_b = start.channel_b;
+      clock = start.clock;
     }
 
 told : Clock.Clock
 told =
     record {
-      timing = some (record { offset = negℤ (pos 51); roundTrip = 52; least = 54 });
-      oneWay = some (pos 53);
+      timing = some (record { offset = neg_ℤ (pos 51); round_trip = 52; least = 54 });
+      one_way = some (pos 53);
       depth = none;
       counts = record { conceals = 0; late = 0; overflow = 0; resyncs = 0 };
-      transmitPeak = Floats.f0;
+      transmit_peak = Floats.f0;
     }
 
 heard : Played Float
-heard = record { samples = Floats.fromBits 0x3f800000 ∷ Floats.fromBits 0xbf800000 ∷ []; taken = 61; dropped = 62; short = 63 }
+heard = record { samples = Floats.from_bits 0x3f800000 ∷ Floats.from_bits 0xbf800000 ∷ []; taken = 61; dropped = 62; short = 63 }
 
 -- the letters that lines begin with
-startsLine : Bool → List ℕ → List ℕ
-startsLine begins [] = []
-startsLine true (c ∷ cs) = c ∷ startsLine (eqb c 10) cs
-startsLine false (c ∷ cs) = startsLine (eqb c 10) cs
+starts_line : Bool → List ℕ → List ℕ
+starts_line begins [] = []
+starts_line true (c ∷ cs) = c ∷ starts_line (eqb c 10) cs
+starts_line false (c ∷ cs) = starts_line (eqb c 10) cs
 
 letters : List ℕ → List ℕ
-letters text = startsLine true text
+letters text = starts_line true text
 
 -- ---- tape
 
-headCode : Head → List ℕ
-headCode (datagramHead n) = 1 ∷ n ∷ []
-headCode (playHead s n) = 2 ∷ side s ∷ n ∷ []
-headCode (resetHead s) = 3 ∷ side s ∷ []
-headCode (setHead s a) = 4 ∷ side s ∷ bit a ∷ []
-headCode probeHead = 5 ∷ []
-headCode oneWayHead = 6 ∷ 0 ∷ []
-headCode depthHead = 6 ∷ 1 ∷ []
-headCode transmitHead = 6 ∷ 2 ∷ []
+head_code : Head → List ℕ
+head_code (datagram_head n) = 1 ∷ n ∷ []
+head_code (play_head s n) = 2 ∷ side s ∷ n ∷ []
+head_code (reset_head s) = 3 ∷ side s ∷ []
+head_code (set_head s a) = 4 ∷ side s ∷ bit a ∷ []
+head_code probe_head = 5 ∷ []
+head_code one_way_head = 6 ∷ 0 ∷ []
+head_code depth_head = 6 ∷ 1 ∷ []
+head_code transmit_head = 6 ∷ 2 ∷ []
 
 word : Option Word → List ℕ
-word none = none′ ∷ []
-word (some setupWord) = 7 ∷ []
-word (some (callWord h)) = headCode h
-word (some endWord) = 0 ∷ []
+word none = none' ∷ []
+word (some setup_word) = 7 ∷ []
+word (some (call_word h)) = head_code h
+word (some end_word) = 0 ∷ []
 
 known : Option Word → ℕ
 known none = 0
@@ -312,39 +296,39 @@ known (some w) = 1
 
 -- the end, or a bad word so many words further on
 body : Found → List ℕ
-body (foundCall c n) = 0 ∷ []
-body foundEnd = 1 ∷ []
-body (foundBad n) = 2 ∷ n ∷ []
+body (found_call c n) = 0 ∷ []
+body found_end = 1 ∷ []
+body (found_bad n) = 2 ∷ n ∷ []
 
-callAs : Call → List ℕ
-callAs (datagram bytes) = 1 ∷ length bytes ∷ bytes
-callAs (play s n) = 2 ∷ side s ∷ n ∷ []
-callAs (reset s) = 3 ∷ []
-callAs (set s x) = 4 ∷ []
-callAs (probe t1 t2 t3 t4) = 5 ∷ []
-callAs (oneWay receive send) = 6 ∷ []
-callAs (depth samples counts) = 6 ∷ []
-callAs (transmitDepth samples) = 6 ∷ []
+call_as : Call → List ℕ
+call_as (datagram bytes) = 1 ∷ length bytes ∷ bytes
+call_as (play s n) = 2 ∷ side s ∷ n ∷ []
+call_as (reset s) = 3 ∷ []
+call_as (set s x) = 4 ∷ []
+call_as (probe t1 t2 t3 t4) = 5 ∷ []
+call_as (one_way receive send) = 6 ∷ []
+call_as (depth samples counts) = 6 ∷ []
+call_as (transmit_depth samples) = 6 ∷ []
 
-callsAs : List Call → List ℕ
-callsAs [] = []
-callsAs (c ∷ cs) = callAs c ++ callsAs cs
+calls_as : List Call → List ℕ
+calls_as [] = []
+calls_as (c ∷ cs) = call_as c ++ calls_as cs
 
 -- a setup's twelve numbers and its calls, or 11 and the place
-readAs : TapeRead → List ℕ
-readAs (readTape t) = Tape.setupBody (t .setup) ++ callsAs (t .calls)
-readAs (badTape place) = 11 ∷ place ∷ []
+read_as : TapeRead → List ℕ
+read_as (read_tape t) = Tape.setup_body t.setup ++ calls_as t.calls
+read_as (bad_tape place) = 11 ∷ place ∷ []
 
-madeOf : List ℕ → List Call → Tape.Tape
-madeOf twelve cs = record { setup = Tape.setupOf twelve; calls = cs }
+made_of : List ℕ → List Call → Tape.Tape
+made_of twelve cs = record { setup = Tape.setup_of twelve; calls = cs }
 
-written′ : Written → List ℕ
-written′ (written bytes) = bytes
-written′ (tooLarge place) = []
+written' : Written → List ℕ
+written' (written bytes) = bytes
+written' (too_large place) = []
 
 -- ---- the papers
 
 ANTT
 python3 "$here/papers.py" equations "$root" "$module" "$work/places" || exit 2
-RT_CUT=0 rt check "$work/model" > "$work/log" 2>&1 || true
+check_definitions || true
 python3 "$here/papers.py" verdict "$work/places" "$work/log" || exit $?

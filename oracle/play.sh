@@ -11,7 +11,7 @@ seed=${2:-1}
 tapes=${3:-1000}
 if [ -z "${PLAY:-}" ]; then
   program play
-  PLAY=$root/target/bin/play
+  PLAY=$root/crates/play/out/play
 fi
 [ -f "$PLAY" ] && [ -x "$PLAY" ] || { echo "no program at '$PLAY'" >&2; exit 2; }
 mkdir -p "$root/target"

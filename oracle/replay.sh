@@ -12,7 +12,7 @@ seed=${2:-1}
 tapes=${3:-100000}
 if [ -z "${REPLAY:-}" ]; then
   program replay
-  REPLAY=$root/target/bin/replay
+  REPLAY=$root/crates/replay/out/replay
 fi
 [ -f "$REPLAY" ] && [ -x "$REPLAY" ] || { echo "no program at '$REPLAY'" >&2; exit 2; }
 mkdir -p "$root/target"

@@ -10,4 +10,4 @@ program replay
 rustc --edition 2021 -O -A warnings -o "$work/replay_one" "$work/replay_one.rs"
 picture 1024 412
 ulimit -s unlimited
-run times "$root/target/bin/repeat_tape" "$root/target/bin/replay" "$work/replay_one" "$root/examples/session.tape"
+run times "$root/crates/repeat_tape/out/repeat_tape" "$root/crates/replay/out/replay" "$work/replay_one" "$root/examples/session.tape"
