@@ -1,6 +1,7 @@
 // The replay of the tape in a file of any length, by windows of the file, to standard output. What a read leaves in memory, and what a
-// write does, has no definition: what is promised is promised of every tape that the windows which were read are windows of, and of the pieces
-// that are written. No public function asks anything of its caller.
+// write does, has no definition: what is promised by one window is promised of every tape that it is a window of, and of the pieces that are
+// written. What is promised of all windows speaks of readings that there are, and not of those that were made, so it says little without
+// the promises by one. No public function asks anything of its caller.
 #![tactic(auto)]
 
 ghost use Rattle.std.specs.Prelude.{false, ◌≡◌, ℕ, ◌+◌, ◌*◌, ◌≤◌, length};
