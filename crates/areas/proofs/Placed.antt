@@ -12,6 +12,11 @@ use Rattle.model.proofs.ListLaws.{placed_length}
 use Rattle.areas.specs.Parts.{moved}
 
 module _ {ℓ} {A : Type ℓ} where
+  -- an element of a list that has one: what a law reads past a list's end
+  pub some_of : (xs : List A) → 0 < length xs → A
+  some_of [] h = absurd (omega arith)
+  some_of (x ∷ xs) h = x
+
   -- ---- parts
 
   pub part_length : (at n : ℕ) (xs : List A) → at + n ≤ length xs → length (part at n xs) ≡ n

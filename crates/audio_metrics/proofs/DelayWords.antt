@@ -1,20 +1,15 @@
 -- The one-way delay in words of 64 bits: a difference that wraps and a sum that wraps keep the low 64 bits. Assumes nothing.
-use Rattle.std.proofs.Common.{◌≡◌, ℕ, suc, ◌+◌, ◌-◌, ◌*◌, ◌%◌, ◌^◌, ◌<◌, ◌≤◌, true, false, T, leb, ℤ, pos, negsuc, ◌+ℤ◌, ◌-ℤ◌, neg_ℤ, nat_abs, sym, ap, mod-lt, mod-eq_of_lt, arith, w64, SFits, le-ltb, leb-false, leb-true}
+use Rattle.std.proofs.Common.{◌≡◌, ℕ, suc, ◌+◌, ◌-◌, ◌*◌, ◌%◌, ◌^◌, ◌<◌, ◌≤◌, true, leb, ℤ, pos, negsuc, ◌+ℤ◌, ◌-ℤ◌, neg_ℤ, refl, sym, ap, mod-lt, mod-eq_of_lt, arith, w64, SFits, of_z, leb-true}
 use native.Mathlib.Nat.{mod-add-mod, add-mul-mod_self_right}
 use mathlib.Core.Bool.{false≢true}
 use mathlib.Core.Option.{Option, none, some}
 use lib.IntN.{+ℤ_assoc, +ℤ_comm, neg_ℤ-+ℤ}
-use lib.Signed.{mag, le_z, non_neg}
+use lib.Signed.{mag}
 use Rattle.model.specs.Clock.{Timing, Clock, bits64, signed64, low64, one_way_of, one_way_in_range}
 use Rattle.model.specs.Questions.{one_way_held, timing_held, clock_held}
 use Rattle.model.proofs.BoolLaws.{first_of_both, second_of_both}
 use Rattle.audio_metrics.specs.Requires.{DelayFits}
 use Rattle.model.proofs.ProbeWords.{bits_of_difference}
-
--- ---- the bits of a number that is below 0
-
-pub minus_one_less : (m : ℕ) → negsuc 0 -ℤ negsuc m ≡ pos m
-minus_one_less m = rw (le-ltb (suc m) 1 (omega arith)) (ap pos (omega arith))
 
 -- ---- sums and differences
 
@@ -47,31 +42,14 @@ module _ (receive send delay : ℕ) (fits : receive < 2 ^ 64) (wraps : (delay + 
       rw (difference_inside receive send m, small)
       (ap signed64 (sym (bits_of_difference receive (send + suc m) ((delay + (2 ^ 64 - suc m)) % 2 ^ 64) (mod-lt _ (omega arith)) (with_difference m (omega (arith, f.sfits))))))
 
--- ---- the bits of a signed number, by its sign
+-- ---- the bits of a signed number
 
-pub not_negative : (n : ℤ) → le_z (pos 0) n ≡ true → T (non_neg n)
-not_negative (pos n) h = tt
-not_negative (negsuc n) h = absurd (false≢true h)
-
-pub bits_not_negative : (n : ℤ) → le_z (pos 0) n ≡ true → mag n < 2 ^ 63 → nat_abs n ≡ bits64 n
+pub bits_of_signed : (n : ℤ) → SFits w64 n → of_z w64 n ≡ bits64 n
 unfolding bits64
-bits_not_negative (pos n) h f = sym (mod-eq_of_lt (omega arith))
-bits_not_negative (negsuc n) h f = absurd (false≢true h)
-
-pub minus_one_less_negative : (n : ℤ) → le_z (pos 0) n ≡ false → negsuc 0 -ℤ n ≡ pos (mag n)
-minus_one_less_negative (pos n) h = absurd (omega (arith, leb-false 0 n h))
-minus_one_less_negative (negsuc n) h = minus_one_less n
-
-pub bits_negative : (n : ℤ) → le_z (pos 0) n ≡ false → mag n < 2 ^ 63 → 2 ^ 64 - 1 - mag n ≡ bits64 n
-unfolding bits64
-bits_negative (pos n) h f = absurd (omega (arith, leb-false 0 n h))
-bits_negative (negsuc n) h f =
-    let small : n % 2 ^ 64 ≡ n = mod-eq_of_lt (omega arith) in
-    rw small (omega arith)
-
-pub nat_abs_below : (n : ℤ) → mag n < 2 ^ 63 → nat_abs n ≤ 2 ^ 63
-nat_abs_below (pos n) f = omega arith
-nat_abs_below (negsuc n) f = f
+bits_of_signed (pos n) f = sym (mod-eq_of_lt (omega (arith, f.sfits)))
+bits_of_signed (negsuc n) f =
+    let small : n % 2 ^ 64 ≡ n = mod-eq_of_lt (omega (arith, f.sfits)) in
+    rw small refl
 
 -- ---- the range of a delay
 

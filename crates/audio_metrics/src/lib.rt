@@ -1,5 +1,5 @@
 // Clock offset, round trip, one-way delay and buffer depths, as rigflow-client/src/audio_metrics.rs keeps them.
-// The state goes in by value and comes back. A number that is not there yet is a case of its own.
+// The state goes in by value and comes back. A number that is not there yet is a None.
 // The functions take what the receiver's questions let through: a held clock, and numbers in the range of question 9.
 #![tactic(auto)]
 
@@ -26,43 +26,25 @@ const JITTER_PEAK_DECAY: f32 = 0.999;
 const TX_RING_PEAK_DECAY: f32 = 0.99;
 
 // Server − client clock offset, the last round trip, and the running least that gates clean offsets.
-#[derive(Clone, Copy)]
+#[derive(Clone, Copy, PartialEq, Eq, Debug)]
 pub struct ClockTiming {
     pub offset_ns: i64,
     pub rtt_ns: u64,
     pub min_rtt_ns: u64,
 }
 
-#[derive(Clone, Copy)]
-pub enum Timing {
-    Unknown,
-    Known(ClockTiming),
-}
-
-#[derive(Clone, Copy)]
-pub enum OneWay {
-    Unknown,
-    Known(i64),
-}
-
 // Depth of the receive buffer in ms: a slow average and a decaying recent peak.
-#[derive(Clone, Copy)]
+#[derive(Clone, Copy, PartialEq, Debug)]
 pub struct JitterDepth {
     pub jitter_avg_ms: f32,
     pub jitter_peak_ms: f32,
 }
 
-#[derive(Clone, Copy)]
-pub enum Jitter {
-    Unknown,
-    Known(JitterDepth),
-}
-
-#[derive(Clone, Copy)]
+#[derive(Clone, Copy, PartialEq, Debug)]
 pub struct AudioMetrics {
-    pub timing: Timing,
-    pub one_way: OneWay,
-    pub jitter: Jitter,
+    pub timing: Option<ClockTiming>,
+    pub one_way: Option<i64>,
+    pub jitter: Option<JitterDepth>,
     pub conceals: u64,
     pub late: u64,
     pub overflow: u64,
@@ -83,8 +65,7 @@ fn min_after(rtt: u64, least: u64) -> u64
     requires { least < 2 ^ 62 }
     ensures { result ≡ least_after rtt least }
 {
-    let relaxed = least + least / 64;
-    if rtt <= relaxed { rtt } else { relaxed }
+    rtt.min(least + least / 64)
 }
 
 // Only a round trip within 1.5 times of the least moves the offset.
@@ -96,11 +77,11 @@ fn is_clean(rtt: u64, least: u64) -> bool
 }
 
 // The numbers after a probe whose round trip is above 0. The round trip is stored before the gate.
-fn timing_after(timing: Timing, offset: i64, rtt: u64) -> ClockTiming
+fn timing_after(timing: Option<ClockTiming>, offset: i64, rtt: u64) -> ClockTiming
     requires { ProbeFits (timing_of timing) offset rtt }
     ensures { known_of result ≡ timing_after offset rtt (timing_of timing) }
 {
-    let Timing::Known(t) = timing else {
+    let Some(t) = timing else {
         return ClockTiming {
             offset_ns: offset,
             rtt_ns: rtt,
@@ -108,16 +89,13 @@ fn timing_after(timing: Timing, offset: i64, rtt: u64) -> ClockTiming
         };
     };
     let least = min_after(rtt, t.min_rtt_ns);
-    if is_clean(rtt, least) {
-        let next = step_toward(4, t.offset_ns, offset);
-        return ClockTiming {
-            offset_ns: next,
-            rtt_ns: rtt,
-            min_rtt_ns: least,
-        };
-    }
+    let offset_ns = if is_clean(rtt, least) {
+        step_toward(4, t.offset_ns, offset)
+    } else {
+        t.offset_ns
+    };
     ClockTiming {
-        offset_ns: t.offset_ns,
+        offset_ns,
         rtt_ns: rtt,
         min_rtt_ns: least,
     }
@@ -135,21 +113,18 @@ fn one_way_of(recv: u64, send: u64, offset: i64) -> i64
 pub fn as_bits(n: i64) -> u64
     ensures { result ≡ bits64 n }
 {
-    if n >= 0 {
-        return n as u64;
-    }
-    u64::MAX - ((-1 - n) as u64)
+    n.cast_unsigned()
 }
 
 // The one-way delay after a new one: the first is taken whole, then an eighth step.
-fn one_way_after(old: OneWay, new: i64) -> i64
+fn one_way_after(old: Option<i64>, new: i64) -> i64
     requires { OneWayFits (delay_of old) new }
     ensures { some result ≡ one_way_after new (delay_of old) }
 {
-    let OneWay::Known(known) = old else {
-        return new;
-    };
-    step_toward(8, known, new)
+    match old {
+        Some(known) => step_toward(8, known, new),
+        None => new,
+    }
 }
 
 // A number of samples in ms.
@@ -161,20 +136,18 @@ fn samples_ms(samples: usize) -> f32
 }
 
 // The depth after a new one: the first is taken whole, then the average moves slowly and the peak decays.
-fn depth_after(jitter: Jitter, now: f32) -> JitterDepth
+fn depth_after(jitter: Option<JitterDepth>, now: f32) -> JitterDepth
     ensures { depth_known result ≡ depth_after «now» (depth_of jitter) }
 {
-    let Jitter::Known(d) = jitter else {
+    let Some(d) = jitter else {
         return JitterDepth {
             jitter_avg_ms: now,
             jitter_peak_ms: now,
         };
     };
-    let avg = d.jitter_avg_ms;
-    let peak = d.jitter_peak_ms;
     JitterDepth {
-        jitter_avg_ms: avg + JITTER_AVG_ALPHA * (now - avg),
-        jitter_peak_ms: floats::max(now, peak * JITTER_PEAK_DECAY),
+        jitter_avg_ms: d.jitter_avg_ms + JITTER_AVG_ALPHA * (now - d.jitter_avg_ms),
+        jitter_peak_ms: floats::max(now, d.jitter_peak_ms * JITTER_PEAK_DECAY),
     }
 }
 
@@ -189,20 +162,14 @@ fn in_ms(ns: i64) -> f32
 fn offset_in_range(offset_ns: i64) -> bool
     ensures { result ≡ offset_allowed offset_ns }
 {
-    if -4611686018427387903 <= offset_ns {
-        return offset_ns <= 4611686018427387903;
-    }
-    false
+    -4611686018427387903 <= offset_ns && offset_ns <= 4611686018427387903
 }
 
 // Question 9 of a probe. A round trip of 0 or less is let through, and then ignored.
 pub fn probe_in_range(offset_ns: i64, rtt_ns: i64) -> bool
     ensures { result ≡ probe_allowed offset_ns rtt_ns }
 {
-    if offset_in_range(offset_ns) {
-        return rtt_ns <= 4611686018427387903;
-    }
-    false
+    offset_in_range(offset_ns) && rtt_ns <= 4611686018427387903
 }
 
 // Question 9 of a depth.
@@ -216,54 +183,31 @@ pub fn depth_in_range(samples: usize) -> bool
 fn rtt_could_be_held(rtt: u64) -> bool
     ensures { result ≡ between 1 clock_bound rtt }
 {
-    if 1 <= rtt {
-        return rtt <= 4611686018427387903;
-    }
-    false
+    1 <= rtt && rtt <= 4611686018427387903
 }
 
-fn timing_could_be_held(timing: Timing) -> bool
+fn timing_could_be_held(timing: Option<ClockTiming>) -> bool
     ensures { result ≡ timing_held (timing_of timing) }
 {
-    let Timing::Known(t) = timing else {
-        return true;
-    };
-    if offset_in_range(t.offset_ns) {
-        if rtt_could_be_held(t.rtt_ns) {
-            return rtt_could_be_held(t.min_rtt_ns);
-        }
-    }
-    false
+    timing.is_none_or(|t| {
+        offset_in_range(t.offset_ns)
+            && rtt_could_be_held(t.rtt_ns)
+            && rtt_could_be_held(t.min_rtt_ns)
+    })
 }
 
 // The delays that are taken: −1 s to 5 s.
 fn one_way_in_range(one_way_ns: i64) -> bool
     ensures { result ≡ one_way_in_range one_way_ns }
 {
-    if -1_000_000_000 <= one_way_ns {
-        return one_way_ns <= 5_000_000_000;
-    }
-    false
+    -1_000_000_000 <= one_way_ns && one_way_ns <= 5_000_000_000
 }
 
 // A delay is there only with an offset.
-fn one_way_could_be_held(timing: Timing, one_way: OneWay) -> bool
+fn one_way_could_be_held(timing: Option<ClockTiming>, one_way: Option<i64>) -> bool
     ensures { result ≡ one_way_held (timing_of timing) (delay_of one_way) }
 {
-    let OneWay::Known(one_way_ns) = one_way else {
-        return true;
-    };
-    let Timing::Known(_) = timing else {
-        return false;
-    };
-    one_way_in_range(one_way_ns)
-}
-
-// A reading that is not there before its first number.
-#[derive(Clone, Copy)]
-pub enum Reading {
-    Unknown,
-    Ms(f32),
+    one_way.is_none_or(|one_way_ns| timing.is_some() && one_way_in_range(one_way_ns))
 }
 
 impl AudioMetrics {
@@ -272,9 +216,9 @@ impl AudioMetrics {
         ensures { clock_of result ≡ fresh_clock }
     {
         AudioMetrics {
-            timing: Timing::Unknown,
-            one_way: OneWay::Unknown,
-            jitter: Jitter::Unknown,
+            timing: None,
+            one_way: None,
+            jitter: None,
             conceals: 0,
             late: 0,
             overflow: 0,
@@ -287,12 +231,7 @@ impl AudioMetrics {
     pub fn could_be_held(self) -> bool
         ensures { result ≡ clock_held (clock_of self) }
     {
-        let timing = self.timing;
-        let one_way = self.one_way;
-        if timing_could_be_held(timing) {
-            return one_way_could_be_held(timing, one_way);
-        }
-        false
+        timing_could_be_held(self.timing) && one_way_could_be_held(self.timing, self.one_way)
     }
 
     // Feeds one clock-offset probe. A round trip of 0 or less is ignored.
@@ -303,19 +242,10 @@ impl AudioMetrics {
         if rtt_ns <= 0 {
             return self;
         }
-        let timing = self.timing;
-        let one_way = self.one_way;
-        let jitter = self.jitter;
-        let next = timing_after(timing, offset_ns, rtt_ns as u64);
+        let next = timing_after(self.timing, offset_ns, rtt_ns as u64);
         AudioMetrics {
-            timing: Timing::Known(next),
-            one_way,
-            jitter,
-            conceals: self.conceals,
-            late: self.late,
-            overflow: self.overflow,
-            resyncs: self.resyncs,
-            tx_ring_peak_ms: self.tx_ring_peak_ms,
+            timing: Some(next),
+            ..self
         }
     }
 
@@ -324,27 +254,18 @@ impl AudioMetrics {
         requires { clock_held (clock_of self) ≡ true }
         ensures { clock_of result ≡ record_one_way recv_ns send_ns (clock_of self) }
     {
-        let timing = self.timing;
-        let one_way = self.one_way;
-        let jitter = self.jitter;
-        let Timing::Known(t) = timing else {
+        let Some(t) = self.timing else {
             return self;
         };
         let new = one_way_of(recv_ns, send_ns, t.offset_ns);
-        if one_way_in_range(new) {
-            let next = one_way_after(one_way, new);
-            return AudioMetrics {
-                timing,
-                one_way: OneWay::Known(next),
-                jitter,
-                conceals: self.conceals,
-                late: self.late,
-                overflow: self.overflow,
-                resyncs: self.resyncs,
-                tx_ring_peak_ms: self.tx_ring_peak_ms,
-            };
+        if !one_way_in_range(new) {
+            return self;
         }
-        self
+        let next = one_way_after(self.one_way, new);
+        AudioMetrics {
+            one_way: Some(next),
+            ..self
+        }
     }
 
     // Publishes the depth of the receive buffer with its four counts.
@@ -359,19 +280,14 @@ impl AudioMetrics {
         requires { samples ≤ 16777216 }
         ensures { clock_of result ≡ record_depth samples (record { conceals = conceals; late = late; overflow = overflow; resyncs = resyncs }) (clock_of self) }
     {
-        let timing = self.timing;
-        let one_way = self.one_way;
-        let jitter = self.jitter;
-        let next = depth_after(jitter, samples_ms(samples));
+        let next = depth_after(self.jitter, samples_ms(samples));
         AudioMetrics {
-            timing,
-            one_way,
-            jitter: Jitter::Known(next),
+            jitter: Some(next),
             conceals,
             late,
             overflow,
             resyncs,
-            tx_ring_peak_ms: self.tx_ring_peak_ms,
+            ..self
         }
     }
 
@@ -380,75 +296,47 @@ impl AudioMetrics {
         requires { samples ≤ 16777216 }
         ensures { clock_of result ≡ record_transmit samples (clock_of self) }
     {
-        let timing = self.timing;
-        let one_way = self.one_way;
-        let jitter = self.jitter;
         let peak = self.tx_ring_peak_ms;
         AudioMetrics {
-            timing,
-            one_way,
-            jitter,
-            conceals: self.conceals,
-            late: self.late,
-            overflow: self.overflow,
-            resyncs: self.resyncs,
             tx_ring_peak_ms: floats::max(samples_ms(samples), peak * TX_RING_PEAK_DECAY),
+            ..self
         }
     }
 
     // The smoothed one-way delay in ms, once known.
-    pub fn rx_one_way_ms(self) -> Reading
+    pub fn rx_one_way_ms(self) -> Option<f32>
         ensures { reading_of result ≡ one_way_ms (clock_of self) }
     {
-        let one_way = self.one_way;
-        let OneWay::Known(n) = one_way else {
-            return Reading::Unknown;
-        };
-        Reading::Ms(in_ms(n))
+        self.one_way.map(in_ms)
     }
 
     // The last round trip in ms, once a probe was taken.
-    pub fn rtt_ms(self) -> Reading
+    pub fn rtt_ms(self) -> Option<f32>
         ensures { reading_of result ≡ round_trip_ms (clock_of self) }
     {
-        let timing = self.timing;
-        let Timing::Known(t) = timing else {
-            return Reading::Unknown;
-        };
-        Reading::Ms(floats::nearest_u64_to_f32(t.rtt_ns) / 1000000.0)
+        self.timing
+            .map(|t| floats::nearest_u64_to_f32(t.rtt_ns) / 1000000.0)
     }
 
     // The clock offset in ms, once known.
-    pub fn clock_offset_ms(self) -> Reading
+    pub fn clock_offset_ms(self) -> Option<f32>
         ensures { reading_of result ≡ offset_ms (clock_of self) }
     {
-        let timing = self.timing;
-        let Timing::Known(t) = timing else {
-            return Reading::Unknown;
-        };
-        Reading::Ms(in_ms(t.offset_ns))
+        self.timing.map(|t| in_ms(t.offset_ns))
     }
 
     // The average depth of the receive buffer in ms: 0 before the first.
     pub fn jitter_ms(self) -> f32
         ensures { result ≡ depth_ms (clock_of self) }
     {
-        let jitter = self.jitter;
-        let Jitter::Known(d) = jitter else {
-            return 0.0;
-        };
-        d.jitter_avg_ms
+        self.jitter.map_or(0.0, |d| d.jitter_avg_ms)
     }
 
     // Its recent peak in ms: 0 before the first.
     pub fn jitter_peak_ms(self) -> f32
         ensures { result ≡ depth_peak_ms (clock_of self) }
     {
-        let jitter = self.jitter;
-        let Jitter::Known(d) = jitter else {
-            return 0.0;
-        };
-        d.jitter_peak_ms
+        self.jitter.map_or(0.0, |d| d.jitter_peak_ms)
     }
 
     // The recent peak of the transmit ring in ms.

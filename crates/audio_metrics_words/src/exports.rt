@@ -8,7 +8,7 @@ ghost use Rattle.audio_metrics.specs.Views.{reading_of};
 ghost use Rattle.audio_metrics_words.specs.Words.{clock_in, clock_words, acts, words_after, reading_word};
 
 use crate::{from_words, to_words};
-use audio_metrics::{AudioMetrics, Reading};
+use audio_metrics::AudioMetrics;
 
 // The words before the first number.
 #[unsafe(no_mangle)]
@@ -99,13 +99,10 @@ pub extern "C" fn audio_metrics_note_tx_ring(state: &mut [u64; 14], samples: usi
 }
 
 // 2^32 and the pattern of a reading, or 0 where there is none.
-fn reading_word(reading: Reading) -> u64
+fn reading_word(reading: Option<f32>) -> u64
     ensures { result ≡ reading_word (reading_of reading) }
 {
-    let Reading::Ms(x) = reading else {
-        return 0;
-    };
-    4294967296 + floats::to_bits(x) as u64
+    reading.map_or(0, |x| 4294967296 + floats::to_bits(x) as u64)
 }
 
 #[unsafe(no_mangle)]

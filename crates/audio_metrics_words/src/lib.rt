@@ -10,7 +10,7 @@ ghost use Rattle.model.specs.Floats.{to_bits};
 ghost use Rattle.audio_metrics.specs.Views.{timing_of, delay_of, depth_of, clock_of};
 ghost use Rattle.audio_metrics_words.specs.Words.{float_in, timing_in, delay_in, depth_in, clock_in, timing_words, delay_words, depth_words, clock_words};
 
-use audio_metrics::{AudioMetrics, ClockTiming, Jitter, JitterDepth, OneWay, Timing, as_bits};
+use audio_metrics::{AudioMetrics, ClockTiming, JitterDepth, as_bits};
 use udp_framing::words::as_signed;
 
 // The float of a word: its pattern is the low half.
@@ -20,35 +20,35 @@ pub fn float_from(word: u64) -> f32
     floats::from_bits((word % 4294967296) as u32)
 }
 
-fn timing_from(known: u64, offset: u64, rtt: u64, least: u64) -> Timing
+fn timing_from(known: u64, offset: u64, rtt: u64, least: u64) -> Option<ClockTiming>
     ensures { timing_of result ≡ timing_in known offset rtt least }
 {
     if known == 0 {
-        return Timing::Unknown;
+        return None;
     }
-    Timing::Known(ClockTiming {
+    Some(ClockTiming {
         offset_ns: as_signed(offset),
         rtt_ns: rtt,
         min_rtt_ns: least,
     })
 }
 
-fn one_way_from(known: u64, one_way: u64) -> OneWay
+fn one_way_from(known: u64, one_way: u64) -> Option<i64>
     ensures { delay_of result ≡ delay_in known one_way }
 {
     if known == 0 {
-        return OneWay::Unknown;
+        return None;
     }
-    OneWay::Known(as_signed(one_way))
+    Some(as_signed(one_way))
 }
 
-fn jitter_from(known: u64, avg: u64, peak: u64) -> Jitter
+fn jitter_from(known: u64, avg: u64, peak: u64) -> Option<JitterDepth>
     ensures { depth_of result ≡ depth_in known avg peak }
 {
     if known == 0 {
-        return Jitter::Unknown;
+        return None;
     }
-    Jitter::Known(JitterDepth {
+    Some(JitterDepth {
         jitter_avg_ms: float_from(avg),
         jitter_peak_ms: float_from(peak),
     })
@@ -57,13 +57,10 @@ fn jitter_from(known: u64, avg: u64, peak: u64) -> Jitter
 pub fn from_words(w: &[u64; 14]) -> AudioMetrics
     ensures { clock_of result ≡ clock_in w.now }
 {
-    let timing = timing_from(w[0], w[1], w[2], w[3]);
-    let one_way = one_way_from(w[4], w[5]);
-    let jitter = jitter_from(w[6], w[7], w[8]);
     AudioMetrics {
-        timing,
-        one_way,
-        jitter,
+        timing: timing_from(w[0], w[1], w[2], w[3]),
+        one_way: one_way_from(w[4], w[5]),
+        jitter: jitter_from(w[6], w[7], w[8]),
         conceals: w[9],
         late: w[10],
         overflow: w[11],
@@ -72,22 +69,22 @@ pub fn from_words(w: &[u64; 14]) -> AudioMetrics
     }
 }
 
-fn timing_words(timing: Timing) -> [u64; 4]
+fn timing_words(timing: Option<ClockTiming>) -> [u64; 4]
     ensures { result ≡ timing_words (timing_of timing) }
 {
-    let Timing::Known(t) = timing else {
-        return [0, 0, 0, 0];
-    };
-    [1, as_bits(t.offset_ns), t.rtt_ns, t.min_rtt_ns]
+    match timing {
+        Some(t) => [1, as_bits(t.offset_ns), t.rtt_ns, t.min_rtt_ns],
+        None => [0, 0, 0, 0],
+    }
 }
 
-fn one_way_words(one_way: OneWay) -> [u64; 2]
+fn one_way_words(one_way: Option<i64>) -> [u64; 2]
     ensures { result ≡ delay_words (delay_of one_way) }
 {
-    let OneWay::Known(n) = one_way else {
-        return [0, 0];
-    };
-    [1, as_bits(n)]
+    match one_way {
+        Some(n) => [1, as_bits(n)],
+        None => [0, 0],
+    }
 }
 
 // The word of a float: its pattern.
@@ -97,24 +94,21 @@ pub fn float_word(x: f32) -> u64
     floats::to_bits(x) as u64
 }
 
-fn jitter_words(jitter: Jitter) -> [u64; 3]
+fn jitter_words(jitter: Option<JitterDepth>) -> [u64; 3]
     ensures { result ≡ depth_words (depth_of jitter) }
 {
-    let Jitter::Known(d) = jitter else {
-        return [0, 0, 0];
-    };
-    [1, float_word(d.jitter_avg_ms), float_word(d.jitter_peak_ms)]
+    match jitter {
+        Some(d) => [1, float_word(d.jitter_avg_ms), float_word(d.jitter_peak_ms)],
+        None => [0, 0, 0],
+    }
 }
 
 pub fn to_words(m: AudioMetrics) -> [u64; 14]
     ensures { result ≡ clock_words (clock_of m) }
 {
-    let timing = m.timing;
-    let one_way = m.one_way;
-    let jitter = m.jitter;
-    let t = timing_words(timing);
-    let o = one_way_words(one_way);
-    let d = jitter_words(jitter);
+    let t = timing_words(m.timing);
+    let o = one_way_words(m.one_way);
+    let d = jitter_words(m.jitter);
     [
         t[0],
         t[1],

@@ -1,16 +1,19 @@
-// What a setup or a call carries, by value: the channel it is for, its sizes, settings, estimates and counts.
-
-// The two channels.
+// What a setup or a call carries, by value: the channel it is for, its sizes, settings, estimates and counts. And why
+// an operation is refused.
 #![tactic(auto)]
 
-#[derive(Clone, Copy)]
+ghost use Rattle.std.specs.Prelude.{◌≡◌};
+ghost use Rattle.calls.specs.Refusals.{refusal_number};
+
+// The two channels.
+#[derive(Clone, Copy, PartialEq, Eq, Debug)]
 pub enum Side {
     A,
     B,
 }
 
 // The six sizes of a receiver.
-#[derive(Clone, Copy)]
+#[derive(Clone, Copy, PartialEq, Eq, Debug)]
 pub struct Sizes {
     pub packet: usize,
     pub target: usize,
@@ -21,7 +24,7 @@ pub struct Sizes {
 }
 
 // A channel's estimates at setup, as bit patterns.
-#[derive(Clone, Copy)]
+#[derive(Clone, Copy, PartialEq, Eq, Debug)]
 pub struct Estimates {
     pub top: u32,
     pub floor: u32,
@@ -29,7 +32,7 @@ pub struct Estimates {
 }
 
 // A channel's settings as a set call gives them: the floats are bit patterns.
-#[derive(Clone, Copy)]
+#[derive(Clone, Copy, PartialEq, Eq, Debug)]
 pub struct Settings {
     pub adaptive: bool,
     pub top: u32,
@@ -39,10 +42,66 @@ pub struct Settings {
 }
 
 // The counts that a depth call gives.
-#[derive(Clone, Copy)]
+#[derive(Clone, Copy, PartialEq, Eq, Debug)]
 pub struct DepthCounts {
     pub conceals: u64,
     pub late: u64,
     pub overflow: u64,
     pub resyncs: u64,
+}
+
+// The questions that an operation asks before it acts, by what a "no" says.
+#[derive(Clone, Copy, PartialEq, Eq, Debug)]
+pub enum Refusal {
+    // The sizes are out of range.
+    Sizes,
+    // An area or a target is too short.
+    NoRoom,
+    // No receiver could hold this state.
+    NotHeld,
+    // As many calls as are counted were accepted.
+    TooManyCalls,
+    // A setting is not finite.
+    NotFinite,
+    // The datagram is too short or too long.
+    Length,
+    // The magic is wrong, or the version is not known.
+    Header,
+    // A row would have more bins than there are.
+    Total,
+    // A number is out of its range.
+    Range,
+    // The packet is not the time-sync packet that was asked for.
+    NotTimePacket,
+    // A tape's word is not laid out well, or a call does not fit its tape fields.
+    BadWord,
+}
+
+impl Refusal {
+    // The question's number, from 1 on.
+    pub fn number(self) -> u32
+        ensures { result ≡ refusal_number self }
+    {
+        match self {
+            Refusal::Sizes => 1,
+            Refusal::NoRoom => 2,
+            Refusal::NotHeld => 3,
+            Refusal::TooManyCalls => 4,
+            Refusal::NotFinite => 5,
+            Refusal::Length => 6,
+            Refusal::Header => 7,
+            Refusal::Total => 8,
+            Refusal::Range => 9,
+            Refusal::NotTimePacket => 10,
+            Refusal::BadWord => 11,
+        }
+    }
+}
+
+impl From<Refusal> for u32 {
+    ghost from_gives = { λ r n. n ≡ refusal_number r };
+
+    fn from(r: Refusal) -> u32 {
+        r.number()
+    }
 }

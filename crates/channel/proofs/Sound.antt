@@ -1,4 +1,5 @@
 -- A call on a channel's sound: the jitter buffer gets the front of the channel's sections, and what it left is put back in front of the rest. Assumes nothing.
+use Rattle.std.proofs.Common.{Option, None, Some}
 use mathlib.Core.Path.{◌≡◌, sym, ◌∙◌, ap}
 use mathlib.Core.Bool.{true}
 use mathlib.Core.Option.{none}
@@ -33,8 +34,7 @@ use Rattle.jitter_pop.specs.Promises.{PopDone}
 use Rattle.jitter_buffer.proofs.HeldKept.{WordsFit, view_shaped}
 use Rattle.jitter_buffer.proofs.Places.{packets_length}
 use Rattle.udp_packets.specs.declared.Screen.{Screen}
-use Rattle.reassembler.specs.declared.WaterfallReassembler.{WaterfallReassembler}
-use Rattle.reassembler.specs.declared.WaterfallReassembler.TheVariants as State
+use Rattle.reassembler.specs.declared.OpenRow.{OpenRow}
 use Rattle.reassembler.specs.Rows.{row_of}
 use Rattle.udp_packets.specs.Packets.{AudioHandled}
 use Rattle.channel.specs.declared.Channel.{Channel}
@@ -47,9 +47,9 @@ use Rattle.channel.proofs.Asking.{few_waiting, short_queue}
 pub row_shaped : (z : Sizes) (s : Screen) (rows : List Float) → z.bins ≤ length rows → RowShaped (sizes_of z) (row_of s.row rows)
 row_shaped z s rows long = shaped s.row
   where
-    shaped : (r : WaterfallReassembler) → RowShaped (sizes_of z) (row_of r rows)
-    shaped State.NoRow = tt
-    shaped (State.Open r) = λ fits. length-take-le r.total_bins rows (omega arith)
+    shaped : (r : Option OpenRow) → RowShaped (sizes_of z) (row_of r rows)
+    shaped None = tt
+    shaped (Some r) = λ fits. length-take-le r.total_bins rows (omega arith)
 
 module _ (z : Sizes) (c : Channel) (fs : List Float) (us : List ℕ) (ready : Ready z c fs us) (words : WordsFit us)
     (row most : ℕ) (row_is : row ≡ row_at (sizes_of z)) (most-is : most ≡ most_waiting (sizes_of z)) where

@@ -8,7 +8,6 @@ ghost use Rattle.channel.specs.Promises.{FreshChannel, Asked, ChannelAsked, Read
 
 use calls::{Estimates, Settings, Sizes};
 use jitter_buffer::JitterBuffer;
-use reassembler::CompletedRow;
 use udp::Display;
 use udp_packets::Screen;
 
@@ -22,7 +21,7 @@ pub struct Channel {
 #[derive(Clone, Copy)]
 pub struct Shown {
     pub channel: Channel,
-    pub completed: CompletedRow,
+    pub completed: Option<usize>,
 }
 
 // What a play leaves and answers.

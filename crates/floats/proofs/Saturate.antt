@@ -1,6 +1,5 @@
--- `as` from a float to an unsigned number of w bits, by two tests: above -1, and below 2 ^ w. Where the first fails the answer is 0, where only the second
--- fails it is 2 ^ w - 1, and where both pass it is what 64 bits give, since nothing is cut off. The laws are stated over the width. Assumes nothing.
-use Rattle.std.proofs.Common.{◌≡◌, ℕ, ◌+◌, ◌-◌, ◌*◌, ◌/◌, ◌^◌, ◌<◌, ◌≤◌, min, true, false, T, ltb, ℤ, pos, sym, refl, ◌∙◌, subst, true≢false, lt_of_lt_of_le, le-add_right, mul-le-mul_right, div-lt_iff_lt-mul, mul-le-mul_left, mul-pos, one-mul, le-div_iff_mul-le, mul-one, not-le_of_lt, le-add_left, arith, lt→ltb, pow_pos, pow_mono, ltb-false, ltb-true}
+-- `as` from a float to an unsigned number of w bits: from 2 ^ w on it is 2 ^ w - 1. The laws are stated over the width. Assumes nothing.
+use Rattle.std.proofs.Common.{◌≡◌, ℕ, ◌+◌, ◌-◌, ◌*◌, ◌/◌, ◌^◌, ◌<◌, ◌≤◌, min, true, false, T, ltb, ℤ, pos, sym, refl, subst, lt_of_lt_of_le, mul-le-mul_right, mul-le-mul_left, mul-pos, one-mul, le-div_iff_mul-le, mul-one, not-le_of_lt, le-add_left, arith, lt→ltb, pow_pos, pow_mono, ltb-false, ltb-true}
 use mathlib.Core.Bool.{false≢true}
 use lib.Ieee.{Float, nan, inf, fin, up, down, lt, to_unsigned}
 use lib.Ieee.Fits.{down_pos}
@@ -30,15 +29,6 @@ below_times n p d h = subst (λ (k : ℕ). n < k * d) (one-mul p) (subst (λ (k 
 pub from_times : (n p d : ℕ) → 1 * p * d ≤ n * 1 → p * d ≤ n
 from_times n p d h = subst (λ (k : ℕ). k * d ≤ n) (one-mul p) (subst (λ (k : ℕ). 1 * p * d ≤ k) (mul-one n) h)
 
-pub below_gives_zero : (w : ℕ) (x : Float) → lt minus_one x ≡ false → 0 ≡ to_unsigned w x
-unfolding lt to_unsigned
-below_gives_zero w nan h = refl
-below_gives_zero w (inf true) h = refl
-below_gives_zero w (inf false) h = absurd (true≢false h)
-below_gives_zero w (fin true m e) h = refl
-below_gives_zero w (fin false m e) h =
-    absurd (sum_is_above_zero (1 * 1 * down e + m * up e * 1) (lt_of_lt_of_le (one_down_pos e) (le-add_right (1 * 1 * down e) (m * up e * 1))) h)
-
 cut_at_top : (a c : ℕ) → c ≤ a → c - 1 ≡ min a (c - 1)
 cut_at_top a c h = omega arith
 
@@ -55,17 +45,6 @@ above_gives_top w (fin false m e) h k =
 
 pub uncut : (a c : ℕ) → a < c → min a (c - 1) ≡ a
 uncut a c h = omega arith
-
-pub inside_is_uncut : (w v : ℕ) (x : Float) → w ≤ v → lt x (two_to w) ≡ true → to_unsigned v x ≡ to_unsigned w x
-unfolding lt to_unsigned
-inside_is_uncut w v nan l k = refl
-inside_is_uncut w v (inf true) l k = refl
-inside_is_uncut w v (inf false) l k = absurd (false≢true k)
-inside_is_uncut w v (fin true m e) l k = refl
-inside_is_uncut w v (fin false m e) l k =
-    let a = m * up e / down e in
-    let h : a < 2 ^ w = (div-lt_iff_lt-mul (down_pos e)).1 (below_times (m * up e) (2 ^ w) (down e) (ltb-true (m * up e * 1) (1 * 2 ^ w * down e) k)) in
-    uncut a (2 ^ v) (lt_of_lt_of_le h (pow_mono l)) ∙ sym (uncut a (2 ^ w) h)
 
 -- from below one power of two to below a larger one
 pub below_larger : (w v : ℕ) (x : Float) → w ≤ v → lt x (two_to w) ≡ true → T (lt x (two_to v))

@@ -1,9 +1,9 @@
 -- A float from 2 ^ 23 on is whole, and so is a zero: rounding it to whole changes nothing. Assumes nothing.
-use Rattle.std.proofs.Common.{◌≡◌, ℕ, zero, suc, ◌+◌, ◌*◌, ◌/◌, ◌^◌, ◌<◌, ◌≤◌, Bool, true, false, T, ℤ, pos, negsuc, sym, refl, ap, ◌∙◌, subst, zero-le, le_of_eq, lt_of_lt_of_le, lt_of_le_of_lt, zero-lt-suc, mul_assoc, mul_comm, mul-lt-mul_of_pos_right, mul-pos, zero-add, zero-mul, mul-one, arith, pow_pos, pow-add, ltb-false, ltb-true}
+use Rattle.std.proofs.Common.{◌≡◌, ℕ, zero, suc, ◌+◌, ◌*◌, ◌/◌, ◌^◌, ◌<◌, ◌≤◌, Bool, true, false, T, ℤ, pos, negsuc, sym, refl, ap, ◌∙◌, subst, zero-le, le_of_eq, lt_of_lt_of_le, lt_of_le_of_lt, zero-lt-suc, mul_assoc, mul_comm, mul-lt-mul_of_pos_right, zero-add, zero-mul, mul-one, arith, pow_pos, pow-add, ltb-false}
 use mathlib.Core.Bool.{false≢true}
 use native.Mathlib.Nat.{div-eq_of_lt, pow-succ'}
 use lib.Ieee.{Float, nan, inf, fin, Format, binary32, emax, low, up, down, round, lt, fits}
-use lib.Ieee.Fits.{up_pos, down_pos, round-fits}
+use lib.Ieee.Fits.{down_pos, round-fits}
 use lib.Ieee.Exact.{round_exact}
 use lib.Ieee.Back.{round_whole, whole_unique}
 use Rattle.model.specs.Floats.{f0, round_half_away}
@@ -52,20 +52,7 @@ zero_stays s e t =
     sym (ap (λ (z : ℕ). round binary32 s z 1) none
     ∙ whole_unique binary32 (round binary32 s 0 1) (fin s zero e) s 0 (round-fits binary32 s 0 1) t (round_whole binary32 s 0 zero-le) (refl, mul-one (0 * up e) ∙ zero-mul (up e) ∙ sym (zero-mul (down e))))
 
--- ---- by the tests of `floats::round`, whose numbers are 0 and 2 ^ 23
-
-pub none_below_zero : (m : ℕ) (e : ℤ) → lt (fin false m e) f0 ≡ true → ⊥
-unfolding lt
-none_below_zero m e h = go (m * up e) (down e) (ltb-true (m * up e * 1) (0 * 1 * down e) h)
-  where
-    go : (n d : ℕ) → n * 1 < 0 * 1 * d → ⊥
-    go n d h = omega arith
-
-no_zero : (n d : ℕ) → 0 < n → n * 1 + 0 * 1 * d ≤ 0 → ⊥
-no_zero n d p h = omega arith
-
-not_above_zero : (n d : ℕ) → 0 < n → n * 1 ≤ 0 * 1 * d → ⊥
-not_above_zero n d p h = omega arith
+-- ---- by the tests of `floats::round_to_u8`, whose numbers are 0 and 2 ^ 23
 
 pub large_positive_stays : (x : Float) → T (fits binary32 x) → lt f0 x ≡ true → lt x (two_to 23) ≡ false → x ≡ round_half_away x
 unfolding lt
@@ -74,19 +61,3 @@ large_positive_stays (inf s) t g h = unfold round_half_away in refl
 large_positive_stays (fin true m e) t g h = absurd (false≢true g)
 large_positive_stays (fin false zero e) t g h = zero_stays false e t
 large_positive_stays (fin false (suc m) e) t g h = large_stays false m e t (from_times (suc m * up e) (2 ^ 23) (down e) (ltb-false (suc m * up e * 1) (1 * 2 ^ 23 * down e) h))
-
-pub large_negative_stays : (x : Float) → T (fits binary32 x) → lt x f0 ≡ true → lt (fin true 1 (pos 23)) x ≡ false → x ≡ round_half_away x
-unfolding lt
-large_negative_stays nan t g h = absurd (false≢true g)
-large_negative_stays (inf s) t g h = unfold round_half_away in refl
-large_negative_stays (fin false m e) t g h = absurd (none_below_zero m e g)
-large_negative_stays (fin true zero e) t g h = zero_stays true e t
-large_negative_stays (fin true (suc m) e) t g h = large_stays true m e t (from_times (suc m * up e) (2 ^ 23) (down e) (ltb-false (suc m * up e * 1) (1 * 2 ^ 23 * down e) h))
-
-pub neither_side_stays : (x : Float) → T (fits binary32 x) → lt f0 x ≡ false → lt x f0 ≡ false → x ≡ round_half_away x
-unfolding lt
-neither_side_stays nan t g h = unfold round_half_away in refl
-neither_side_stays (inf s) t g h = unfold round_half_away in refl
-neither_side_stays (fin s zero e) t g h = zero_stays s e t
-neither_side_stays (fin true (suc m) e) t g h = absurd (no_zero (suc m * up e) (down e) (mul-pos (zero-lt-suc m) (up_pos e)) (ltb-false 0 (suc m * up e * 1 + 0 * 1 * down e) h))
-neither_side_stays (fin false (suc m) e) t g h = absurd (not_above_zero (suc m * up e) (down e) (mul-pos (zero-lt-suc m) (up_pos e)) (ltb-false (0 * 1 * down e) (suc m * up e * 1) g))

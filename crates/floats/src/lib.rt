@@ -2,8 +2,6 @@
 // subnormal are answered as the definition that the contract names answers them.
 #![tactic(auto)]
 
-mod exports;
-
 ghost use Rattle.std.specs.Prelude.{◌≡◌, ◌^◌, ◌<◌, ◌≤◌, min, false, T, pos};
 ghost use Prim.Native.Nat.{compare};
 ghost use Rattle.std.specs.Float.Ieee as Ieee;
@@ -15,12 +13,11 @@ ghost use Rattle.model.specs.Floats.{f0, finite, as_unsigned, nearest, natf, rou
 pub fn is_finite(x: f32) -> bool
     ensures { result ≡ finite x }
 {
-    let top: f32 = 1.0 / 0.0;
-    if x < top { -top < x } else { false }
+    x.is_finite()
 }
 
 // b where it is above a or a is a NaN, else a: so a NaN is skipped, and of two zeros the first is
-// the answer.
+// the answer. (`f32::max` leaves it open which of them.)
 pub fn max(a: f32, b: f32) -> f32
     ensures { result ≡ maxf a b }
 {
@@ -30,7 +27,7 @@ pub fn max(a: f32, b: f32) -> f32
     if a != a { b } else { a }
 }
 
-// x, or the end of the range that it is beyond. A NaN stays a NaN.
+// x, or the end of the range that it is beyond. A NaN stays a NaN. (`f32::clamp` asks for a `low` that is at most `high`.)
 pub fn clamp(x: f32, low: f32, high: f32) -> f32
     ensures { result ≡ clampf x low high }
 {
@@ -65,55 +62,28 @@ pub fn to_bits(x: f32) -> u32
 pub fn sample(lo: u8, hi: u8) -> f32
     ensures { result ≡ sample lo hi }
 {
-    let b = (lo as u32) + 256 * (hi as u32);
-    let above = (b + 0x8000) % 0x1_0000;
-    let x = ((above as i32) - 0x8000) as i16;
-    (x as f32) / 32767.0
+    (i16::from_le_bytes([lo, hi]) as f32) / 32767.0
 }
 
 // x without its fraction, as a u8: what lies outside goes to the nearest end, and a NaN to 0.
 pub fn as_u8(x: f32) -> u8
     ensures { result ≡ as_unsigned 8 x }
 {
-    if x > -1.0 {
-        if x < 256.0 {
-            std::num::truncating_f32_to_u64(x) as u8
-        } else {
-            255
-        }
-    } else {
-        0
-    }
+    std::num::saturating_f32_to_u8(x)
 }
 
 // x without its fraction, as a u32, in the same way.
 pub fn as_u32(x: f32) -> u32
     ensures { result ≡ as_unsigned 32 x }
 {
-    if x > -1.0 {
-        if x < 4294967296.0 {
-            std::num::truncating_f32_to_u64(x) as u32
-        } else {
-            u32::MAX
-        }
-    } else {
-        0
-    }
+    std::num::saturating_f32_to_u32(x)
 }
 
 // x without its fraction, as a usize, in the same way.
 pub fn as_usize(x: f32) -> usize
     ensures { result ≡ as_unsigned 64 x }
 {
-    if x > -1.0 {
-        if x < 18446744073709551616.0 {
-            std::num::truncating_f32_to_u64(x) as usize
-        } else {
-            usize::MAX
-        }
-    } else {
-        0
-    }
+    std::num::saturating_f32_to_usize(x)
 }
 
 // The whole number nearest to x, half away from zero, with x's sign: -0.3 gives -0. From 2^23 on
@@ -121,17 +91,7 @@ pub fn as_usize(x: f32) -> usize
 pub fn round(x: f32) -> f32
     ensures { result ≡ round_half_away x }
 {
-    if x > 0.0 {
-        if x < 8388608.0 { half_up(x) as f32 } else { x }
-    } else if x < 0.0 {
-        if x > -8388608.0 {
-            -(half_up(-x) as f32)
-        } else {
-            x
-        }
-    } else {
-        x
-    }
+    x.round()
 }
 
 // The whole number nearest to x, half up. x + x is exact, and its whole part has the half as its
@@ -164,7 +124,7 @@ pub fn round_to_u8(x: f32) -> u8
 fn cut_to_u8(n: u64) -> u8
     ensures { result ≡ min n 255 }
 {
-    if n < 255 { n as u8 } else { 255 }
+    n.min(255) as u8
 }
 
 // The f32 nearest to n; where two are as near, the one whose last digit is even.
@@ -174,8 +134,7 @@ pub fn nearest_i64_to_f32(n: i64) -> f32
     if n >= 0 {
         nearest_u64_to_f32(n as u64)
     } else {
-        // -n does not fit at i64::MIN
-        -nearest_u64_to_f32(((0 - (n + 1)) as u64) + 1)
+        -nearest_u64_to_f32(n.unsigned_abs())
     }
 }
 

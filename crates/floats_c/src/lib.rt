@@ -1,5 +1,5 @@
 // The static library of `floats` for programs in other languages. Each function has the contract of the function that it
-// calls, and the name that it has in the module `exports` there.
+// calls, and its name with a prefix.
 #![tactic(auto)]
 
 ghost use Rattle.std.specs.Prelude.{◌≡◌};

@@ -18,21 +18,18 @@ fn write(text: &[u8]) {
 
 // The rest of a vector's line, and the tally with it.
 fn finish(t: Tally, found: u64, expected: u64) -> Tally {
-    let seen = std::num::wrapping_add_u64(t.seen, 1);
+    let seen = t.seen.wrapping_add(1);
     io::print_hex(STDOUT_FILENO, found, 8);
     if found == expected {
         write(b" equal\n");
-        return Tally {
-            seen,
-            different: t.different,
-        };
+        return Tally { seen, ..t };
     }
     write(b" DIFFERS, expected ");
     io::print_hex(STDOUT_FILENO, expected, 8);
     write(b"\n");
     Tally {
         seen,
-        different: std::num::wrapping_add_u64(t.different, 1),
+        different: t.different.wrapping_add(1),
     }
 }
 

@@ -1,4 +1,5 @@
 -- What is said of a channel's buffer in the view is said of the struct's fields and the area's words. Assumes nothing.
+use Rattle.std.proofs.Common.{Some}
 use mathlib.Core.Path.{◌≡◌, refl, ◌∙◌, ap}
 use mathlib.Core.Bool.{true}
 use mathlib.Core.List.{List}
@@ -22,7 +23,6 @@ use Rattle.calls.specs.declared.Side.TheVariants.{A, B}
 use Rattle.calls.specs.declared.Sizes.{Sizes}
 use Rattle.calls.specs.Views.{model_side, sizes_of}
 use Rattle.jitter_buffer.specs.declared.JitterBuffer.{JitterBuffer}
-use Rattle.jitter_buffer.specs.declared.NextSequence.TheVariants.{Next}
 use Rattle.jitter_buffer.specs.View.{packets_from, view_of, next_of}
 use Rattle.jitter_buffer.proofs.Places.{packets_length}
 use Rattle.channel.specs.View.{row_at}
@@ -82,7 +82,7 @@ module _ (side : Side) (events : List Event) (m : Moment) (long : float_area (si
   waiting : length (view_of m.receiver.sizes (jitter_at side m) (floats_of side m) (words_of side m)).waiting ≡ (jitter_at side m).pending_len
   waiting = packets_length m.receiver.sizes.packet 0 ((jitter_at side m).pending_len - 0) (floats_of side m) (words_of side m) ∙ omega arith
 
-  in_order : (next : ℕ) → (jitter_at side m).next_sequence ≡ Next next → (i : ℕ) → i < (jitter_at side m).pending_len
+  in_order : (next : ℕ) → (jitter_at side m).next_sequence ≡ Some next → (i : ℕ) → i < (jitter_at side m).pending_len
       → next ≤ sequence_at m.receiver.sizes side m i
   in_order next started i h =
       let all = sound.order next (ap next_of started) in

@@ -1,6 +1,6 @@
 -- The claim on every list of calls (demand 3), as a record with a field for each part, in the struct's own fields, the areas' own words and the
 -- answers' own numbers. Its proof is `whole_list` of proofs/WholeList. Assumes nothing.
-use Rattle.std.specs.Prelude.{◌≡◌, List, ℕ, ◌+◌, ◌*◌, ◌≤◌, ◌<◌, get_or}
+use Rattle.std.specs.Prelude.{◌≡◌, Some, List, ℕ, ◌+◌, ◌*◌, ◌≤◌, ◌<◌, get_or}
 use Rattle.model.specs.Receiver.{Setup, Lent, fresh}
 use Rattle.model.specs.Step.{Event, Run, run}
 use Rattle.model.specs.Lines.{Line, only_calls, only_events, line_state, since_reset}
@@ -11,7 +11,6 @@ use Rattle.calls.specs.declared.Sizes.{Sizes}
 use Rattle.calls.specs.declared.Estimates.{Estimates}
 use Rattle.calls.specs.Views.{model_side, sizes_of, model_setup}
 use Rattle.jitter_buffer.specs.declared.JitterBuffer.{JitterBuffer}
-use Rattle.jitter_buffer.specs.declared.NextSequence.TheVariants.{Next}
 use Rattle.receiver_state.specs.View.{channel_at, word_start}
 use Rattle.histories.specs.Chains.{Moment, state_at, lent_at, calls_of}
 
@@ -60,7 +59,7 @@ pub record ChannelAdds (z : Sizes) (side : Side) (events : List Event) (last : M
   -- the queue is shorter than target + packet
   pub queue : (jitter_at side last).playout_len < z.target + z.packet
   -- in a started channel no waiting sequence is below the next one
-  pub order : (next : ℕ) → (jitter_at side last).next_sequence ≡ Next next → (i : ℕ) → i < (jitter_at side last).pending_len → next ≤ sequence_at z side last i
+  pub order : (next : ℕ) → (jitter_at side last).next_sequence ≡ Some next → (i : ℕ) → i < (jitter_at side last).pending_len → next ≤ sequence_at z side last i
 
 -- ---- the whole list
 

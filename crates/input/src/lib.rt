@@ -1,67 +1,32 @@
 // Bytes from an input, as standard input.
 #![tactic(auto)]
 
-ghost use Rattle.std.specs.Prelude.{false, ◌≡◌, ◌≤◌, ◌<◌, length};
+ghost use Rattle.std.specs.Prelude.{◌≤◌, length, MatchResult};
+ghost use Rattle.input.specs.Promises.{ReadUntil, ReadBefore};
 
 use std::io;
 
-// How many bytes are there, whether the input has ended, and whether a read failed.
-#[derive(Clone, Copy)]
-pub struct Read {
+// A read failed, when so many bytes were there.
+#[derive(Clone, Copy, PartialEq, Eq, Debug)]
+pub struct ReadFailed {
     pub bytes: usize,
-    pub ended: bool,
-    pub failed: bool,
 }
 
-fn least(a: usize, b: usize) -> usize
-    ensures { (result ≤ a) × (result ≤ b) }
-{
-    if a < b { a } else { b }
-}
-
-// One read behind the bytes that are there.
-fn read_more<R: io::Read>(reader: &mut R, bytes: &mut [u8], from: usize) -> Read
-    requires { from ≤ length bytes.old }
-    ensures { (result.bytes ≤ length bytes.old) × (result.ended ≡ false → from < result.bytes) }
-{
-    let most = bytes.len() - from;
-    let Ok(got) = reader.read(&mut bytes[from..]) else {
-        return Read {
-            bytes: from,
-            ended: true,
-            failed: true,
-        };
-    };
-    let n = least(got, most);
-    if n == 0 {
-        return Read {
-            bytes: from,
-            ended: true,
-            failed: false,
-        };
-    }
-    Read {
-        bytes: from + n,
-        ended: false,
-        failed: false,
-    }
-}
-
-// Reads until the input ends, a read fails or the bytes are full.
-pub fn read_all<R: io::Read>(reader: &mut R, bytes: &mut [u8]) -> Read
-    ensures { result.bytes ≤ length bytes.old }
+// Reads until the input ends or the bytes are full, and says how many there are.
+pub fn read_all<R: io::Read>(reader: &mut R, bytes: &mut [u8]) -> Result<usize, ReadFailed>
+    ensures bound { MatchResult result (λ n. n ≤ length bytes.old) (λ e. e.bytes ≤ length bytes.old) }
+    ensures bytes { MatchResult result (ReadUntil (R.remaining reader.old) (R.remaining reader.new) bytes.new) (λ e. ReadBefore (R.remaining reader.old) (R.remaining reader.new) bytes.new e.bytes) }
 {
     let mut at = 0;
+    // No `for`: what is counted are the bytes that reads bring.
     while at < bytes.len() {
-        let read = read_more(reader, bytes, at);
-        if read.ended {
-            return read;
+        let Ok(n) = reader.read(&mut bytes[at..]) else {
+            return Err(ReadFailed { bytes: at });
+        };
+        if n == 0 {
+            return Ok(at);
         }
-        at = read.bytes;
+        at += n;
     }
-    Read {
-        bytes: at,
-        ended: true,
-        failed: false,
-    }
+    Ok(at)
 }

@@ -1,4 +1,5 @@
 -- Question 3 on the fields and the sequences is the model's question on the view. Assumes nothing.
+use Rattle.std.proofs.Common.{Option, None, Some}
 use mathlib.Core.Path.{◌≡◌, refl, sym, ◌∙◌, ap}
 use mathlib.Core.Bool.{Bool, true, false, ◌&&◌, cond, and-eq-true_iff, and_assoc, and-true}
 use mathlib.Core.List.{List, [], ◌∷◌}
@@ -18,8 +19,6 @@ use Rattle.calls.specs.declared.Sizes.{Sizes}
 use Rattle.calls.specs.Views.{sizes_of}
 use Rattle.sizes.specs.View.{queue_at}
 use Rattle.jitter_buffer.specs.declared.JitterBuffer.{JitterBuffer}
-use Rattle.jitter_buffer.specs.declared.NextSequence.{NextSequence}
-use Rattle.jitter_buffer.specs.declared.NextSequence.TheVariants.{NotStarted, Next}
 use Rattle.jitter_buffer.specs.View.{next_of, packets_from, counters_of, view_of}
 use Rattle.jitter_asking.specs.Fields.{words_from}
 use Rattle.jitter_asking.specs.Fields.{largest_counter, next_asked, start_asked}
@@ -114,15 +113,15 @@ module _ (z : Sizes) (j : JitterBuffer) (fs : List Float) (us : List ℕ) (long 
   queue_is : j.playout_len < z.target + z.packet → length (view_of z j fs us).queue ≡ j.playout_len
   queue_is h = omega (arith, length-take j.playout_len (drop (queue_at (sizes_of z)) fs), length-drop (queue_at (sizes_of z)) fs)
 
-  start_asked_law : (next : NextSequence) → strictly_rising (words_from 0 j.pending_len us) ≡ true → j.playout_len < z.target + z.packet
+  start_asked_law : (next : Option ℕ) → strictly_rising (words_from 0 j.pending_len us) ≡ true → j.playout_len < z.target + z.packet
       → start_held (sizes_of z) (next_of next) (view_of z j fs us) ≡ next_asked z j us next
   unfolding start_held next_asked
-  start_asked_law NotStarted r h = rw (queue_is h, pending) (both (eqb j.playout_len 0) (ltb (z.packet * j.pending_len) z.target))
+  start_asked_law None r h = rw (queue_is h, pending) (both (eqb j.playout_len 0) (ltb (z.packet * j.pending_len) z.target))
     where
       both : (a b : Bool) → a && b ≡ cond a b false
       both true b = refl
       both false b = refl
-  start_asked_law (Next s) r h = rw words (all_words s j.pending_len us r)
+  start_asked_law (Some s) r h = rw words (all_words s j.pending_len us r)
 
   -- question 3 on the fields
   abbrev pub fields_held : ℕ → Bool

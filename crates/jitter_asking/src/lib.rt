@@ -1,7 +1,7 @@
 // Question 3 for a channel's jitter buffer, and for a counter: whether a receiver could hold them.
 #![tactic(auto)]
 
-ghost use Rattle.std.specs.Prelude.{◌≡◌, ◌*◌, ◌≤◌, max, length, leb};
+ghost use Rattle.std.specs.Prelude.{◌≡◌, ◌*◌, ◌≤◌, length, leb};
 ghost use Rattle.model.specs.Questions.{most_calls, strictly_rising};
 ghost use Rattle.jitter_buffer.specs.View.{counters_of};
 ghost use Rattle.jitter_buffer.specs.Promises.{Sized};
@@ -9,7 +9,7 @@ ghost use Rattle.jitter_asking.specs.Fields.{words_from, largest_counter};
 ghost use Rattle.jitter_asking.specs.Promises.{StartTold, HeldTold};
 
 use calls::Sizes;
-use jitter_buffer::{JitterBuffer, NextSequence};
+use jitter_buffer::JitterBuffer;
 
 // Whether the first n sequences are in strictly rising order: each pair, from the last one on. The loop has no early way
 // out, so that many pairs are compared at once.
@@ -42,21 +42,17 @@ pub fn counter_held(counter: u64, calls: u64) -> bool
     }
 }
 
-fn most_u64(a: u64, b: u64) -> u64
-    ensures { result ≡ max a b }
-{
-    if a < b { b } else { a }
-}
-
 // The largest of the eight counters.
 fn largest_counter(j: JitterBuffer) -> u64
     ensures { result ≡ largest_counter (counters_of j) }
 {
-    let a = most_u64(j.packets_received, j.packets_inserted);
-    let b = most_u64(j.packets_missing_concealed, j.packets_dropped_late);
-    let c = most_u64(j.packets_dropped_overflow, j.packets_dropped_invalid_size);
-    let d = most_u64(j.resync_count, j.filled);
-    most_u64(most_u64(a, b), most_u64(c, d))
+    let a = j.packets_received.max(j.packets_inserted);
+    let b = j.packets_missing_concealed.max(j.packets_dropped_late);
+    let c = j
+        .packets_dropped_overflow
+        .max(j.packets_dropped_invalid_size);
+    let d = j.resync_count.max(j.filled);
+    a.max(b).max(c.max(d))
 }
 
 // Whether next fits what waits: none below it, and before the start an empty queue and too little.
@@ -64,16 +60,9 @@ fn start_held(j: JitterBuffer, z: Sizes, us: &[u32]) -> bool
     requires { Sized z j × (j.pending_len ≤ length us.now) }
     ensures { StartTold z j us.now result }
 {
-    let next = j.next_sequence;
-    match next {
-        NextSequence::NotStarted => {
-            if j.playout_len == 0 {
-                z.packet * j.pending_len < z.target
-            } else {
-                false
-            }
-        }
-        NextSequence::Next(s) => { if j.pending_len == 0 { true } else { s <= us[0] } }
+    match j.next_sequence {
+        None => j.playout_len == 0 && z.packet * j.pending_len < z.target,
+        Some(s) => j.pending_len == 0 || s <= us[0],
     }
 }
 
@@ -83,6 +72,7 @@ fn start_held(j: JitterBuffer, z: Sizes, us: &[u32]) -> bool
 pub fn could_be_held(j: JitterBuffer, z: Sizes, us: &[u32], calls: u64) -> bool
     ensures { HeldTold z j us.now calls result }
 {
+    // No single `&&`: each question may be asked only where those before it were answered with yes.
     if !sizes::allowed(z) {
         return false;
     }

@@ -1,5 +1,5 @@
 -- What holds between the turns of a fill: the rest of the fill makes of the view what the whole fill makes of the view at entry. Assumes nothing.
-use Rattle.std.proofs.Common.{◌≡◌, ℕ, ◌+◌, ◌-◌, ◌<◌, ◌≤◌, true, List, length, sym, refl, ◌∙◌, arith}
+use Rattle.std.proofs.Common.{◌≡◌, ℕ, ◌+◌, ◌-◌, ◌<◌, ◌≤◌, true, Some, List, length, sym, refl, ◌∙◌, arith}
 use lib.Ieee.{Float}
 use Rattle.model.specs.Floats.{f0}
 use Rattle.model.specs.Sizes.{sizes_allowed, most_waiting}
@@ -9,7 +9,6 @@ use Rattle.model.proofs.FillStep.{Loose, Flow, flow_none, flow_then, step_keeps,
 use Rattle.calls.specs.declared.Sizes.{Sizes}
 use Rattle.calls.specs.Views.{sizes_of}
 use Rattle.jitter_buffer.specs.declared.JitterBuffer.{JitterBuffer}
-use Rattle.jitter_buffer.specs.declared.Turn.TheVariants.{More}
 use Rattle.jitter_buffer.specs.View.{view_from, view_of}
 use Rattle.jitter_buffer.specs.Promises.{Lent, Filling, TurnTaken, FillCounts, CanFill, Closing}
 use Rattle.jitter_buffer.proofs.FillLoop.{fill_goes_on, fill_stopped}
@@ -70,7 +69,7 @@ module _ (z : Sizes) (fs₀ : List Float) (us : List ℕ) (j : JitterBuffer) (fs
         };
       }
 
-  module _ (fs' : List Float) (b' : JitterBuffer) (t : ℕ) (turn : TurnTaken z b fs us taken fs' (More b' t)) (long : length fs' ≡ length fs) where
+  module _ (fs' : List Float) (b' : JitterBuffer) (t : ℕ) (turn : TurnTaken z b fs us taken fs' (Some (b', t))) (long : length fs' ≡ length fs) where
     pub turns : UnderWay z fs₀ us j fs' b' t
     turns =
         let a = allowed (sizes_of z) w.sizes in

@@ -1,5 +1,5 @@
 -- What the code of a fill's steps makes of the view is what the model's steps make of it. Next waits only at the front, so what is taken is a prefix. Assumes nothing.
-use Rattle.std.proofs.Common.{◌≡◌, ℕ, suc, ◌+◌, ◌-◌, ◌*◌, ◌<◌, ◌≤◌, true, false, eqb, ltb, List, [], ◌∷◌, ◌++◌, length, get_or, replicate, sym, refl, ap, ◌∙◌, mul-le-mul_right, add-mul, zero-add, add-one, arith, ltb-false, ltb-true, eq-eqb, le-leb}
+use Rattle.std.proofs.Common.{◌≡◌, ℕ, suc, ◌+◌, ◌-◌, ◌*◌, ◌<◌, ◌≤◌, true, false, eqb, ltb, Option, None, Some, List, [], ◌∷◌, ◌++◌, length, get_or, replicate, sym, refl, ap, ◌∙◌, mul-le-mul_right, add-mul, zero-add, add-one, arith, ltb-false, ltb-true, eq-eqb, le-leb}
 use native.Mathlib.Nat.{sub-zero}
 use lib.ListN.{length-replicate}
 use lib.Ieee.{Float, nan}
@@ -16,8 +16,6 @@ use Rattle.calls.specs.declared.Sizes.{Sizes}
 use Rattle.calls.specs.Views.{sizes_of}
 use Rattle.sizes.specs.View.{queue_at}
 use Rattle.jitter_buffer.specs.declared.JitterBuffer.{JitterBuffer}
-use Rattle.jitter_buffer.specs.declared.NextSequence.{NextSequence}
-use Rattle.jitter_buffer.specs.declared.NextSequence.TheVariants.{NotStarted, Next}
 use Rattle.jitter_buffer.specs.View.{next_of, step_of, packets_from, view_from, view_of}
 use Rattle.jitter_buffer.specs.Fields.{moved_fields, concealed_fields, resynced_fields, closed_fields, next_step, fill_step_of}
 use Rattle.jitter_buffer.specs.Promises.{Lent}
@@ -35,17 +33,17 @@ front_only s p ps r =
     (λ w. absurd (omega (arith, waiting_not_below (suc p.sequence) s ps r.1 w)))
     (λ w. w)))
 
-front_step : {X : Type 0} (next : NextSequence) (p : Packet X) (ps : List (Packet X)) → RisingFrom (lowest (next_of next)) (p ∷ ps)
+front_step : {X : Type 0} (next : Option ℕ) (p : Packet X) (ps : List (Packet X)) → RisingFrom (lowest (next_of next)) (p ∷ ps)
     → step_of (next_step next true p.sequence) ≡ with_next (next_of next) (p ∷ ps)
 unfolding next_step with_next
-front_step NotStarted p ps r = refl
-front_step (Next s) p ps r =
+front_step None p ps r = refl
+front_step (Some s) p ps r =
     rw (front_only s p ps r) (by_test (eqb p.sequence s) (λ e. rw e) (λ e. rw e))
 
-none_step : (X : Type 0) (next : NextSequence) (front : ℕ) → step_of (next_step next false front) ≡ with_next {X = X} (next_of next) []
+none_step : (X : Type 0) (next : Option ℕ) (front : ℕ) → step_of (next_step next false front) ≡ with_next {X = X} (next_of next) []
 unfolding next_step with_next
-none_step X NotStarted front = refl
-none_step X (Next s) front = refl
+none_step X None front = refl
+none_step X (Some s) front = refl
 
 module _ (z : Sizes) (j : JitterBuffer) (fs : List Float) (us : List ℕ) (taken : ℕ) where
   waiting_step : RisingFrom (lowest (next_of j.next_sequence)) (packets_from z.packet taken (j.pending_len - taken) fs us)

@@ -1,5 +1,5 @@
 -- What each way through one turn of a fill leaves, as its contract has it. Assumes nothing.
-use Rattle.std.proofs.Common.{◌≡◌, ℕ, ◌+◌, ◌*◌, ◌<◌, ◌≤◌, Bool, true, false, eqb, ltb, List, length, get_or, drop, replicate, sym, refl, ap, ◌∙◌, arith, length-drop, length-take, ltb-true, eqb-true}
+use Rattle.std.proofs.Common.{◌≡◌, ℕ, ◌+◌, ◌*◌, ◌<◌, ◌≤◌, Bool, true, false, eqb, ltb, Option, None, Some, List, length, get_or, drop, replicate, sym, refl, ap, ◌∙◌, arith, length-drop, length-take, ltb-true, eqb-true}
 use lib.Ieee.{Float}
 use Rattle.model.specs.Bytes.{part, placed}
 use Rattle.model.specs.Floats.{f0}
@@ -9,10 +9,7 @@ use Rattle.calls.specs.declared.Sizes.{Sizes}
 use Rattle.calls.specs.Views.{sizes_of}
 use Rattle.sizes.specs.View.{queue_at}
 use Rattle.jitter_buffer.specs.declared.JitterBuffer.{JitterBuffer}
-use Rattle.jitter_buffer.specs.declared.NextSequence.{NextSequence}
-use Rattle.jitter_buffer.specs.declared.NextSequence.TheVariants.{NotStarted, Next}
 use Rattle.jitter_buffer.specs.declared.FillStep.TheVariants.{Moved, Concealed, Stopped}
-use Rattle.jitter_buffer.specs.declared.Turn.TheVariants.{More, Done}
 use Rattle.jitter_buffer.specs.View.{step_of, view_from}
 use Rattle.jitter_buffer.specs.Fields.{moved_fields, concealed_fields, resynced_fields, next_step, fill_step_of}
 use Rattle.jitter_buffer.specs.Promises.{Lent, Filling, TurnTaken}
@@ -20,20 +17,20 @@ use Rattle.jitter_buffer.proofs.FillView.{step_does, moved_view, concealed_view,
 
 -- ---- what the name of a step says of the fields
 
-next_moved : (next : NextSequence) (waits : Bool) (front s : ℕ) → next_step next waits front ≡ Moved s → (waits ≡ true) × (front ≡ s)
+next_moved : (next : Option ℕ) (waits : Bool) (front s : ℕ) → next_step next waits front ≡ Moved s → (waits ≡ true) × (front ≡ s)
 unfolding next_step
-next_moved NotStarted waits front s e = clash (cc)
-next_moved (Next n) false front s e = clash (cc)
-next_moved (Next n) true front s e =
+next_moved None waits front s e = clash (cc)
+next_moved (Some n) false front s e = clash (cc)
+next_moved (Some n) true front s e =
     by_test (eqb front n)
     (λ t. let m : Moved n ≡ Moved s = rw t at e in let same : n ≡ s = cc in (refl, eqb-true front n t ∙ same))
     (λ t. let m : Concealed n ≡ Moved s = rw t at e in clash (cc))
 
-next_concealed : (next : NextSequence) (waits : Bool) (front s : ℕ) → next_step next waits front ≡ Concealed s → waits ≡ true
+next_concealed : (next : Option ℕ) (waits : Bool) (front s : ℕ) → next_step next waits front ≡ Concealed s → waits ≡ true
 unfolding next_step
-next_concealed NotStarted waits front s e = clash (cc)
-next_concealed (Next n) false front s e = clash (cc)
-next_concealed (Next n) true front s e = refl
+next_concealed None waits front s e = clash (cc)
+next_concealed (Some n) false front s e = clash (cc)
+next_concealed (Some n) true front s e = refl
 
 pub record FrontTaken (z : Sizes) (j : JitterBuffer) (us : List ℕ) (taken s : ℕ) : Type 0 where
   pub below : j.playout_len < z.target
@@ -69,11 +66,11 @@ module _ (z : Sizes) (j : JitterBuffer) (fs : List Float) (us : List ℕ) (taken
   turn_does : step_of (fill_step_of z.target j us taken) ≡ step_due (sizes_of z) (view_from taken z j fs us)
   turn_does = step_does z j fs us taken (omega (arith, p.lent.floats, queue_below z fs us j.playout_len p.lent p.loose.queue)) p.loose
 
-  pub turn_stopped : fill_step_of z.target j us taken ≡ Stopped → TurnTaken z j fs us taken fs Done
+  pub turn_stopped : fill_step_of z.target j us taken ≡ Stopped → TurnTaken z j fs us taken fs None
   turn_stopped e = (sym turn_does ∙ ap step_of e, refl)
 
   pub turn_moved : (s : ℕ) → fill_step_of z.target j us taken ≡ Moved s
-      → TurnTaken z j fs us taken (placed (queue_at (sizes_of z) + j.playout_len) (part (taken * z.packet) z.packet fs) fs) (More (moved_fields z.packet s j) (taken + 1))
+      → TurnTaken z j fs us taken (placed (queue_at (sizes_of z) + j.playout_len) (part (taken * z.packet) z.packet fs) fs) (Some (moved_fields z.packet s j, taken + 1))
   turn_moved s e =
       let f = step_moved z j us taken s e in
       let d : step_due (sizes_of z) (view_from taken z j fs us) ≡ moved s = sym turn_does ∙ ap step_of e in (
@@ -84,7 +81,7 @@ module _ (z : Sizes) (j : JitterBuffer) (fs : List Float) (us : List ℕ) (taken
       )
 
   pub turn_concealed : (s : ℕ) → fill_step_of z.target j us taken ≡ Concealed s → j.consecutive_conceals + 1 < 3
-      → TurnTaken z j fs us taken (placed (queue_at (sizes_of z) + j.playout_len) (replicate z.packet f0) fs) (More (concealed_fields z.packet s j) taken)
+      → TurnTaken z j fs us taken (placed (queue_at (sizes_of z) + j.playout_len) (replicate z.packet f0) fs) (Some (concealed_fields z.packet s j, taken))
   turn_concealed s e few =
       let f = step_concealed z j us taken s e in
       let d : step_due (sizes_of z) (view_from taken z j fs us) ≡ concealed s = sym turn_does ∙ ap step_of e in (
@@ -96,7 +93,7 @@ module _ (z : Sizes) (j : JitterBuffer) (fs : List Float) (us : List ℕ) (taken
 
   pub turn_resynced : (s : ℕ) → fill_step_of z.target j us taken ≡ Concealed s → 3 ≤ j.consecutive_conceals + 1
       → TurnTaken z j fs us taken (placed (queue_at (sizes_of z) + j.playout_len) (replicate z.packet f0) fs)
-      (More (resynced_fields (get_or us taken 0) (concealed_fields z.packet s j)) taken)
+      (Some (resynced_fields (get_or us taken 0) (concealed_fields z.packet s j), taken))
   turn_resynced s e many =
       let f = step_concealed z j us taken s e in
       let d : step_due (sizes_of z) (view_from taken z j fs us) ≡ concealed s = sym turn_does ∙ ap step_of e in (

@@ -1,5 +1,5 @@
 -- What the functions of the crate ask, and what they promise; and what the calls on a buffer ask. Assumes nothing.
-use Rattle.std.specs.Prelude.{◌≡◌, ℕ, ◌+◌, ◌*◌, ◌^◌, ◌<◌, ◌≤◌, true, List, length, ◌≢◌, Float}
+use Rattle.std.specs.Prelude.{◌≡◌, ℕ, ◌+◌, ◌*◌, ◌^◌, ◌<◌, ◌≤◌, true, Option, None, Some, List, length, ◌≢◌, Float}
 use Rattle.model.specs.Floats.{f0}
 use Rattle.model.specs.Sizes.{sizes_allowed, most_waiting}
 use Rattle.model.specs.JitterBuffer.{buffered, step_due, after_step, stopped}
@@ -9,8 +9,6 @@ use Rattle.calls.specs.declared.Sizes.{Sizes}
 use Rattle.calls.specs.Views.{sizes_of}
 use Rattle.sizes.specs.View.{queue_at}
 use Rattle.jitter_buffer.specs.declared.JitterBuffer.{JitterBuffer}
-use Rattle.jitter_buffer.specs.declared.Turn.{Turn}
-use Rattle.jitter_buffer.specs.declared.Turn.TheVariants.{More, Done}
 use Rattle.jitter_buffer.specs.View.{view_from, view_of}
 
 -- exactly the two parts are lent: no place of another part
@@ -67,13 +65,13 @@ pub record Filling (z : Sizes) (j : JitterBuffer) (fs : List Float) (us : List �
   pub counts : CanConceal z j
 
 -- what one turn of a fill leaves: the step that it took, or a fill that stopped
-abbrev pub TurnTaken : Sizes → JitterBuffer → List Float → List ℕ → ℕ → List Float → Turn → Type 0
-TurnTaken z j fs us taken fs' (More b t) =
+abbrev pub TurnTaken : Sizes → JitterBuffer → List Float → List ℕ → ℕ → List Float → Option (JitterBuffer × ℕ) → Type 0
+TurnTaken z j fs us taken fs' (Some (b, t)) =
     (view_from t z b fs' us ≡ after_step f0 (sizes_of z) (step_due (sizes_of z) (view_from taken z j fs us)) (view_from taken z j fs us))
     × (step_due (sizes_of z) (view_from taken z j fs us) ≢ stopped)
     × (b.pending_len ≡ j.pending_len)
     × (t ≤ j.pending_len)
-TurnTaken z j fs us taken fs' Done = (step_due (sizes_of z) (view_from taken z j fs us) ≡ stopped) × (fs' ≡ fs)
+TurnTaken z j fs us taken fs' None = (step_due (sizes_of z) (view_from taken z j fs us) ≡ stopped) × (fs' ≡ fs)
 
 -- each counter of a fill stays in range
 pub record FillCounts (j : JitterBuffer) : Type 0 where

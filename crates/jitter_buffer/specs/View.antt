@@ -1,6 +1,7 @@
 -- The model's buffer that the struct and its two lent parts hold: the waiting samples and the queue in the f32 part, the waiting sequences in the u32 part. Assumes nothing.
-use Rattle.std.specs.Prelude.{ℕ, zero, suc, ◌-◌, ◌*◌, List, [], ◌∷◌, slice_index, Float}
-use Rattle.std.proofs.Math.Option.{Option, none, some}
+use Rattle.std.specs.Prelude.{ℕ, zero, suc, ◌-◌, ◌*◌, Option, None, Some, List, [], ◌∷◌, slice_index, Float}
+use Rattle.std.proofs.Math.Option as Maybe
+use Rattle.std.proofs.Math.Option.{none, some}
 use Rattle.model.specs.Bytes.{part}
 use Rattle.model.specs.Samples.{samples_of}
 use Rattle.model.specs.JitterBuffer as Model
@@ -9,14 +10,12 @@ use Rattle.calls.specs.declared.Sizes.{Sizes}
 use Rattle.calls.specs.Views.{sizes_of}
 use Rattle.sizes.specs.View.{queue_at}
 use Rattle.jitter_buffer.specs.declared.JitterBuffer.{JitterBuffer}
-use Rattle.jitter_buffer.specs.declared.NextSequence.{NextSequence}
-use Rattle.jitter_buffer.specs.declared.NextSequence.TheVariants.{NotStarted, Next}
 use Rattle.jitter_buffer.specs.declared.FillStep.{FillStep}
 use Rattle.jitter_buffer.specs.declared.FillStep.TheVariants.{Moved, Concealed, Stopped}
 
-abbrev pub next_of : NextSequence → Option ℕ
-next_of NotStarted = none
-next_of (Next s) = some s
+abbrev pub next_of : Option ℕ → Maybe.Option ℕ
+next_of None = none
+next_of (Some s) = some s
 
 abbrev pub step_of : FillStep → Step
 step_of (Moved s) = Model.moved s

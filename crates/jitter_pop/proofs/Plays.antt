@@ -1,4 +1,5 @@
 -- What a play's parts leave together: the fill, then what is handed out of it. Assumes nothing.
+use Rattle.std.proofs.Common.{None, Some}
 use mathlib.Core.Path.{◌≡◌, refl}
 use mathlib.Core.Bool.{Bool, true, false, cond, ◌&&◌}
 use mathlib.Core.List.{List}
@@ -15,7 +16,6 @@ use Rattle.calls.specs.declared.Sizes.{Sizes}
 use Rattle.calls.specs.Views.{sizes_of}
 use Rattle.jitter_buffer.specs.declared.JitterBuffer.{JitterBuffer}
 use Rattle.jitter_pop.specs.declared.Popped.{Popped}
-use Rattle.jitter_buffer.specs.declared.NextSequence.TheVariants.{NotStarted, Next}
 use Rattle.jitter_buffer.specs.View.{view_of}
 use Rattle.jitter_pop.specs.Fields.{silence_popped}
 use Rattle.jitter_buffer.specs.Promises.{Lent, CanFill}
@@ -79,7 +79,7 @@ module _ (z : Sizes) (j : JitterBuffer) (fs : List Float) (us : List ℕ) (p : C
 -- ---- the whole play
 
 module _ (z : Sizes) (j : JitterBuffer) (fs : List Float) (us : List ℕ) where
-  pub pop_played : (s : ℕ) → j.next_sequence ≡ Next s → (n : ℕ) (r : Popped) (fs' : List Float) (us' : List ℕ) (out' : List Float)
+  pub pop_played : (s : ℕ) → j.next_sequence ≡ Some s → (n : ℕ) (r : Popped) (fs' : List Float) (us' : List ℕ) (out' : List Float)
       → PlayedAs z (play_filled f0 (sizes_of z) n (fill f0 (sizes_of z) (view_of z j fs us))) r fs' us' out'
       → PlayedAs z (play f0 (sizes_of z) n (view_of z j fs us)) r fs' us' out'
   unfolding play is_started
@@ -87,7 +87,7 @@ module _ (z : Sizes) (j : JitterBuffer) (fs : List Float) (us : List ℕ) where
       let same : play f0 (sizes_of z) n (view_of z j fs us) ≡ play_filled f0 (sizes_of z) n (fill f0 (sizes_of z) (view_of z j fs us)) = rw e in
       rw same h
 
-  pub pop_silent : j.next_sequence ≡ NotStarted → (n : ℕ) (r : Popped) (out' : List Float)
+  pub pop_silent : j.next_sequence ≡ None → (n : ℕ) (r : Popped) (out' : List Float)
       → r ≡ silence_popped n j → out' ≡ replicate n f0 → PlayedAs z (play f0 (sizes_of z) n (view_of z j fs us)) r fs us out'
   unfolding play is_started play_fillers counting count_short
   pop_silent e n r out' h o =

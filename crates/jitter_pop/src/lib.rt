@@ -2,7 +2,7 @@
 // grows too long, and what is short is silence. The buffer and its lent memory are those of `jitter_buffer`.
 #![tactic(auto)]
 
-ghost use Rattle.std.specs.Prelude.{◌≡◌, ◌+◌, ◌^◌, ◌≤◌, ◌<◌, min, length, replicate};
+ghost use Rattle.std.specs.Prelude.{◌≡◌, ◌+◌, ◌^◌, ◌≤◌, ◌<◌, length, replicate};
 ghost use Rattle.model.specs.Floats.{f0};
 ghost use Rattle.model.specs.JitterBuffer.{fill, drop_count, play_filled};
 ghost use Rattle.calls.specs.Views.{sizes_of};
@@ -12,7 +12,7 @@ ghost use Rattle.jitter_pop.specs.Fields.{silence_popped};
 ghost use Rattle.jitter_pop.specs.Promises.{CanHandOut, HandedOut, CanPlay, PlayedAs, PopDone};
 
 use calls::Sizes;
-use jitter_buffer::{JitterBuffer, NextSequence};
+use jitter_buffer::JitterBuffer;
 
 // What a play leaves and answers: the samples that were queued, those dropped before them, and those
 // that were made up behind them.
@@ -22,12 +22,6 @@ pub struct Popped {
     pub taken: usize,
     pub dropped: usize,
     pub short: usize,
-}
-
-fn least(a: usize, b: usize) -> usize
-    ensures { result ≡ min a b }
-{
-    if a < b { a } else { b }
 }
 
 // How many samples a play drops of a queue of so many: the 16 oldest, where latency grows above target.
@@ -41,7 +35,7 @@ fn apply_drift_correction(z: Sizes, queued: usize) -> usize
     if excess < z.packet / 4 {
         return 0;
     }
-    least(16, queued)
+    queued.min(16)
 }
 
 // Fills the output from the queue, behind the samples that are dropped, and with silence past its end.
@@ -51,7 +45,7 @@ fn hand_out(z: Sizes, j: JitterBuffer, fs: &mut [f32], out: &mut [f32], dropped:
 {
     let n = out.len();
     let left = j.playout_len - dropped;
-    let taken = least(n, left);
+    let taken = n.min(left);
     let short = n - taken;
     let rest = left - taken;
     let offsets = sizes::section_offsets(z);
@@ -61,11 +55,12 @@ fn hand_out(z: Sizes, j: JitterBuffer, fs: &mut [f32], out: &mut [f32], dropped:
     areas::copy(out, fs, from, 0, taken);
     areas::fill(out, taken, short, 0.0);
     areas::move_down(fs, after, queue, rest);
-    let mut b = j;
-    b.playout_len = rest;
-    b.filled = j.filled + short as u64;
     Popped {
-        buffer: b,
+        buffer: JitterBuffer {
+            playout_len: rest,
+            filled: j.filled + short as u64,
+            ..j
+        },
         taken,
         dropped,
         short,
@@ -79,10 +74,11 @@ fn pop_silence(j: JitterBuffer, out: &mut [f32]) -> Popped
 {
     let n = out.len();
     areas::fill(out, 0, n, 0.0);
-    let mut b = j;
-    b.filled = j.filled + n as u64;
     Popped {
-        buffer: b,
+        buffer: JitterBuffer {
+            filled: j.filled + n as u64,
+            ..j
+        },
         taken: 0,
         dropped: 0,
         short: n,
@@ -111,9 +107,8 @@ pub fn pop_samples(
     requires { Ready z j fs.old us.old × (length out.old ≤ 65535) }
     ensures { PopDone z j fs.old us.old out.old result fs.new us.new out.new }
 {
-    let next = j.next_sequence;
-    match next {
-        NextSequence::NotStarted => pop_silence(j, out),
-        NextSequence::Next(_s) => pop_filled(z, j, fs, us, out),
+    match j.next_sequence {
+        None => pop_silence(j, out),
+        Some(_) => pop_filled(z, j, fs, us, out),
     }
 }

@@ -1,7 +1,6 @@
 // The calls that are made: a datagram, a play or a reset, on so many places of the areas.
 use calls::Side;
 use receiver_state::{Answer, Answered, Receiver};
-use std::num::wrapping_add_u64;
 
 // What a header says, but for its timestamp.
 #[derive(Clone, Copy)]
@@ -43,27 +42,19 @@ pub fn sound(side: Side, sequence: u32) -> Header {
 
 // The timestamp stays what it was.
 fn write_header(bytes: &mut [u8; 272], h: Header) {
-    let magic = h.magic;
-    let sequence = h.sequence;
-    bytes[0] = (magic / 256) as u8;
-    bytes[1] = (magic % 256) as u8;
+    bytes[0..2].copy_from_slice(&h.magic.to_be_bytes());
     bytes[2] = h.version;
     bytes[3] = h.stream_type;
-    bytes[4] = (sequence / 16777216) as u8;
-    bytes[5] = (sequence / 65536 % 256) as u8;
-    bytes[6] = (sequence / 256 % 256) as u8;
-    bytes[7] = (sequence % 256) as u8;
+    bytes[4..8].copy_from_slice(&h.sequence.to_be_bytes());
 }
 
 // The samples first, first + 1 and so on, in 16 bits, two bytes to each.
 fn count_up(bytes: &mut [u8; 272], first: u64) {
-    let mut i = 0;
     let mut sample = first;
-    while i < 128 {
+    for i in 0..128 {
         bytes[16 + 2 * i] = (sample % 256) as u8;
         bytes[17 + 2 * i] = (sample / 256 % 256) as u8;
-        sample = wrapping_add_u64(sample, 1);
-        i += 1;
+        sample = sample.wrapping_add(1);
     }
 }
 
@@ -85,10 +76,10 @@ fn no_call(receiver: Receiver) -> Answered {
 
 // The first n bytes.
 fn hand_over(r: Receiver, fs: &mut [f32], us: &mut [u32], bytes: &[u8], n: usize) -> Answered {
-    if n <= bytes.len() {
-        return receiver_datagrams::handle_media_packet(r, fs, us, &bytes[0..n]);
-    }
-    no_call(r)
+    let Some(first) = bytes.get(..n) else {
+        return no_call(r);
+    };
+    receiver_datagrams::handle_media_packet(r, fs, us, first)
 }
 
 // Into the first n places.

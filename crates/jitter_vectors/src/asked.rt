@@ -1,14 +1,13 @@
 // A receiver that plays, one change to it or to what it is lent, and a call: what the call answers, and after a refusal
 // that nothing else is changed.
 use crate::acts::{Act, Lent, call_on, sound};
-use crate::compare::{Equality, and_then, jitter_of, numbers, same};
+use crate::compare::{Difference, jitter_of, numbers, same};
 use crate::session::{estimates, refusal, refused_by, setup_on, sizes};
-use crate::tally::{Ended, ended_as, in_turn};
+use crate::tally::{Failed, ended_as, in_turn};
 use calls::{Side, Sizes};
 use jitter_buffer::JitterBuffer;
 use receiver_setup::{Opening, setup};
 use receiver_state::{Answered, Receiver};
-use std::num::wrapping_add_u64;
 
 #[derive(Clone, Copy)]
 pub enum Change {
@@ -52,11 +51,9 @@ fn four_pushed(
     out: &mut [f32; 65536],
 ) -> Receiver {
     let mut r = begun;
-    let mut sequence = 10;
-    while sequence < 14 {
+    for sequence in 10..14 {
         let v = call_on(r, side, fs, us, exact(), packet(side, sequence), out);
         r = v.receiver;
-        sequence += 1;
     }
     r
 }
@@ -123,10 +120,6 @@ fn on_side(a: Act, side: Side) -> Act {
     Act::Datagram(v, first, n)
 }
 
-fn wide(x: u32) -> u64 {
-    x as u64
-}
-
 // The sizes, the numbers of calls and headers, the counts of streams 1 and 2, and what waits and is queued on each
 // channel.
 fn head(r: Receiver) -> [u64; 18] {
@@ -159,33 +152,23 @@ fn head(r: Receiver) -> [u64; 18] {
 
 // Stores the words from a place on, as far as there is room.
 fn put(all: &mut [u64; 119], from: usize, words: &[u64]) {
-    let mut at = from;
-    let mut i = 0;
-    while i < words.len() {
-        if at < 119 {
-            all[at] = words[i];
-            at += 1;
-        }
-        i += 1;
+    for (place, word) in all.iter_mut().skip(from).zip(words) {
+        *place = *word;
     }
 }
 
 fn float_words(fs: &[f32; 64]) -> [u64; 64] {
     let mut all = [0u64; 64];
-    let mut i = 0;
-    while i < 64 {
-        all[i] = wide(floats::to_bits(fs[i]));
-        i += 1;
+    for (place, x) in all.iter_mut().zip(fs) {
+        *place = u64::from(floats::to_bits(*x));
     }
     all
 }
 
 fn wide_words(us: &[u32; 11]) -> [u64; 11] {
     let mut all = [0u64; 11];
-    let mut i = 0;
-    while i < 11 {
-        all[i] = wide(us[i]);
-        i += 1;
+    for (place, word) in all.iter_mut().zip(us) {
+        *place = u64::from(*word);
     }
     all
 }
@@ -204,7 +187,7 @@ fn everything(r: Receiver, fs: &[f32; 64], us: &[u32; 11]) -> [u64; 119] {
 // The number of the question that must refuse; 0 where the call must be accepted.
 fn number_of(expect: Expect) -> u64 {
     match expect {
-        Expect::Refused(n) => wide(n),
+        Expect::Refused(n) => u64::from(n),
         _ => 0,
     }
 }
@@ -215,22 +198,27 @@ fn left_by(before: [u64; 119], after: [u64; 119], expect: Expect) -> [u64; 119] 
     match expect {
         Expect::Refused(_) => {}
         Expect::Counted => {
-            left[6] = wrapping_add_u64(before[6], 1);
-            left[7] = wrapping_add_u64(before[7], 1);
+            left[6] = before[6].wrapping_add(1);
+            left[7] = before[7].wrapping_add(1);
         }
         Expect::Accepted => {
             left = after;
-            left[6] = wrapping_add_u64(before[6], 1);
+            left[6] = before[6].wrapping_add(1);
         }
     }
     left
 }
 
 // What a call left and answered, against what is expected of it.
-fn judged(before: [u64; 119], after: [u64; 119], refused: u64, expect: Expect) -> Equality {
-    let answered = same(&[refused], &[number_of(expect)], 17);
+fn judged(
+    before: [u64; 119],
+    after: [u64; 119],
+    refused: u64,
+    expect: Expect,
+) -> Result<(), Difference> {
+    same(&[refused], &[number_of(expect)], 17)?;
     let left = left_by(before, after, expect);
-    and_then(answered, same(&after, &left, 20))
+    same(&after, &left, 20)
 }
 
 fn judged_after(
@@ -239,7 +227,7 @@ fn judged_after(
     fs: &[f32; 64],
     us: &[u32; 11],
     expect: Expect,
-) -> Equality {
+) -> Result<(), Difference> {
     let r = v.receiver;
     let answer = v.answer;
     judged(before, everything(r, fs, us), refusal(answer), expect)
@@ -254,7 +242,7 @@ fn call_changed(
     a: Act,
     expect: Expect,
     out: &mut [f32; 65536],
-) -> Equality {
+) -> Result<(), Difference> {
     let before = everything(r, fs, us);
     let v = call_on(r, side, fs, us, lent, a, out);
     judged_after(before, v, fs, us, expect)
@@ -271,16 +259,13 @@ fn call_playing(
     lent: Lent,
     a: Act,
     expect: Expect,
-) -> Equality {
+) -> Result<(), Difference> {
     let mut out = [3.0f32; 65536];
     let r = four_pushed(begun, side, fs, us, &mut out);
-    let there = same(
-        &numbers(r, side),
-        &[4, 4, 0, 0, 0, 0, 0, 0, 16, 16, 1, 12, 0],
-        20,
-    );
+    let playing = [4, 4, 0, 0, 0, 0, 0, 0, 16, 16, 1, 12, 0];
+    same(&numbers(r, side), &playing, 20)?;
     change_word(us, side, change);
-    let done = call_changed(
+    call_changed(
         changed(r, side, change),
         side,
         fs,
@@ -289,17 +274,22 @@ fn call_playing(
         a,
         expect,
         &mut out,
-    );
-    and_then(there, done)
+    )
 }
 
 // One call of a receiver of 4, 8 and 16.
-pub fn called(side: Side, change: Change, lent: Lent, a: Act, expect: Expect) -> Ended {
+pub fn called(
+    side: Side,
+    change: Change,
+    lent: Lent,
+    a: Act,
+    expect: Expect,
+) -> Result<u64, Failed> {
     let mut fs = [2.0f32; 64];
     let mut us = [7u32; 11];
     let begun = setup(sizes(4, 8, 16), estimates(), estimates(), &fs, &mut us);
     match begun {
-        Opening::Refused(n) => Ended::Differs(side, 0, refused_by(wide(n))),
+        Opening::Refused(n) => ended_as(side, 0, Err(refused_by(u64::from(n)))),
         Opening::Ready(r) => {
             let act = on_side(a, side);
             let done = call_playing(r, side, &mut fs, &mut us, change, lent, act, expect);
@@ -309,7 +299,7 @@ pub fn called(side: Side, change: Change, lent: Lent, a: Act, expect: Expect) ->
 }
 
 // A datagram, a play and a reset, each of a channel that plays.
-pub fn all_called(side: Side, change: Change, lent: Lent, expect: Expect) -> Ended {
+pub fn all_called(side: Side, change: Change, lent: Lent, expect: Expect) -> Result<u64, Failed> {
     let first = called(side, change, lent, packet(Side::A, 14), expect);
     let second = called(side, change, lent, Act::Play(2), expect);
     let third = called(side, change, lent, Act::Reset, expect);
@@ -319,7 +309,7 @@ pub fn all_called(side: Side, change: Change, lent: Lent, expect: Expect) -> End
 // The number of the question that refused a setup; 0 where it was accepted.
 fn setup_refusal(begun: Opening) -> u64 {
     match begun {
-        Opening::Refused(n) => wide(n),
+        Opening::Refused(n) => u64::from(n),
         Opening::Ready(_) => 0,
     }
 }
@@ -337,11 +327,15 @@ fn words_left(expect: Expect) -> [u64; 11] {
     left
 }
 
-pub fn set_up(z: Sizes, lent: Lent, expect: Expect) -> Ended {
+// What a setup answered, and the words that it left.
+fn set_up_as(found: u64, us: &[u32; 11], expect: Expect) -> Result<(), Difference> {
+    same(&[found], &[number_of(expect)], 17)?;
+    same(&wide_words(us), &words_left(expect), 20)
+}
+
+pub fn set_up(z: Sizes, lent: Lent, expect: Expect) -> Result<u64, Failed> {
     let fs = [2.0f32; 64];
     let mut us = [7u32; 11];
     let found = setup_refusal(setup_on(z, &fs, &mut us, lent));
-    let answered = same(&[found], &[number_of(expect)], 17);
-    let left = same(&wide_words(&us), &words_left(expect), 20);
-    ended_as(Side::A, 1, and_then(answered, left))
+    ended_as(Side::A, 1, set_up_as(found, &us, expect))
 }

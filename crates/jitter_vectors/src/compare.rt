@@ -1,10 +1,9 @@
 // What was found after a call, against what a session's text expects, and against what was there before.
 use crate::text::{decimal, pattern};
 use calls::Side;
-use jitter_buffer::{JitterBuffer, NextSequence};
+use jitter_buffer::JitterBuffer;
 use receiver_state::Receiver;
 use receiver_state::readings::{Buffered, buffered_samples};
-use std::num::wrapping_add_usize;
 
 // What is not as expected: its number in the list of names (see tally), its place where it is one of many, and
 // both values.
@@ -16,22 +15,8 @@ pub struct Difference {
     pub expected: u64,
 }
 
-#[derive(Clone, Copy)]
-pub enum Agreed {
-    // The place behind the last number.
-    Until(usize),
-    Not(Difference),
-}
-
-fn word(b: bool) -> u64 {
-    if b { 1 } else { 0 }
-}
-
-fn next_or_0(next: NextSequence) -> u64 {
-    match next {
-        NextSequence::NotStarted => 0,
-        NextSequence::Next(s) => s as u64,
-    }
+fn next_or_0(next: Option<u32>) -> u64 {
+    next.map_or(0, |s| u64::from(s))
 }
 
 // A state that has no amount shows as a number that no session expects.
@@ -72,88 +57,68 @@ pub fn numbers(r: Receiver, side: Side) -> [u64; 13] {
         j.filled,
         j.max_buffered_samples() as u64,
         amount_word(amount),
-        word(j.started()),
+        u64::from(j.started()),
         next_or_0(next),
         j.consecutive_conceals as u64,
     ]
 }
 
-// Numbers against those of the text, the first one under the name `what`.
-pub fn agree(found: &[u64], what: usize, text: &[u8], from: usize) -> Agreed {
+// Numbers against those of the text, the first one under the name `what`. The answer is the place behind the last.
+pub fn agree(found: &[u64], what: usize, text: &[u8], from: usize) -> Result<usize, Difference> {
     let mut at = from;
-    let mut i = 0;
-    while i < found.len() {
+    for (i, number) in found.iter().enumerate() {
         let n = decimal(text, at);
-        if n.value != found[i] {
-            return Agreed::Not(Difference {
-                what: wrapping_add_usize(what, i),
+        if n.value != *number {
+            return Err(Difference {
+                what: what.wrapping_add(i),
                 place: 0,
-                found: found[i],
+                found: *number,
                 expected: n.value,
             });
         }
         at = n.at;
-        i += 1;
     }
-    Agreed::Until(at)
+    Ok(at)
 }
 
-// Samples against those of the text, bit for bit.
-pub fn samples_agree(out: &[f32], text: &[u8], from: usize) -> Agreed {
+// Samples against those of the text, bit for bit. The answer is the place behind the last.
+pub fn samples_agree(out: &[f32], text: &[u8], from: usize) -> Result<usize, Difference> {
     let mut at = from;
-    let mut i = 0;
-    while i < out.len() {
+    for (place, sample) in out.iter().enumerate() {
         let n = pattern(text, at);
-        let bits = floats::to_bits(out[i]) as u64;
+        let bits = u64::from(floats::to_bits(*sample));
         if n.value != bits {
-            return Agreed::Not(Difference {
+            return Err(Difference {
                 what: 16,
-                place: i,
+                place,
                 found: bits,
                 expected: n.value,
             });
         }
         at = n.at;
-        i += 1;
     }
-    Agreed::Until(at)
+    Ok(at)
 }
 
-#[derive(Clone, Copy)]
-pub enum Equality {
-    Holds,
-    Fails(Difference),
-}
-
-// Two lists of numbers of one length, under the name `what`.
-pub fn same(found: &[u64], expected: &[u64], what: usize) -> Equality {
+// Two lists of numbers of one length, under the name `what`: the first difference.
+pub fn same(found: &[u64], expected: &[u64], what: usize) -> Result<(), Difference> {
     if found.len() != expected.len() {
-        return Equality::Fails(Difference {
+        return Err(Difference {
             what,
             place: found.len(),
             found: found.len() as u64,
             expected: expected.len() as u64,
         });
     }
-    let mut i = 0;
-    while i < found.len() {
-        if found[i] != expected[i] {
-            return Equality::Fails(Difference {
+    for (place, number) in found.iter().enumerate() {
+        if *number != expected[place] {
+            return Err(Difference {
                 what,
-                place: i,
-                found: found[i],
-                expected: expected[i],
+                place,
+                found: *number,
+                expected: expected[place],
             });
         }
-        i += 1;
     }
-    Equality::Holds
-}
-
-// The first difference of two comparisons.
-pub fn and_then(first: Equality, second: Equality) -> Equality {
-    match first {
-        Equality::Holds => second,
-        Equality::Fails(d) => Equality::Fails(d),
-    }
+    Ok(())
 }

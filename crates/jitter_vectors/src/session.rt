@@ -1,18 +1,17 @@
 // Runs a session on each channel of a receiver: its calls one after the other, each held against its line.
 use crate::acts::{Act, Lent, call_on, sound};
-use crate::compare::{Agreed, Difference, agree, and_then, numbers, same, samples_agree};
-use crate::tally::{Ended, Tally, ended_as, in_turn, tallied};
+use crate::compare::{Difference, agree, numbers, same, samples_agree};
+use crate::tally::{Failed, Tally, ended_as, in_turn, tallied};
 use crate::text::{Call, behind_empty_line, call_at, decimal, ends_at, name};
 use calls::{Estimates, Side, Sizes};
 use receiver_setup::{Opening, setup};
 use receiver_state::{Answer, Receiver};
-use std::num::wrapping_add_usize;
 
-// What a call left, and whether its line agrees.
+// What a call left, and the place of the next line, if its line agrees.
 #[derive(Clone, Copy)]
 struct Stepped {
     receiver: Receiver,
-    agreed: Agreed,
+    agreed: Result<usize, Difference>,
 }
 
 // A line's call, and the place behind it.
@@ -20,13 +19,6 @@ struct Stepped {
 struct Parsed {
     act: Act,
     at: usize,
-}
-
-// Where a session's next line stands, if there is one.
-#[derive(Clone, Copy)]
-enum Line {
-    At(usize),
-    Missing,
 }
 
 pub fn sizes(packet: usize, target: usize, max: usize) -> Sizes {
@@ -50,10 +42,10 @@ pub fn estimates() -> Estimates {
 
 // The number of the question that was answered with no; 0 where the call was accepted.
 pub fn refusal(answer: Answer) -> u64 {
-    let Answer::Refused(n) = answer else {
-        return 0;
-    };
-    n as u64
+    match answer {
+        Answer::Refused(n) => u64::from(n),
+        _ => 0,
+    }
 }
 
 // A call's refusal where it must be accepted. 99 is a line that is no call, and what is longer than there is.
@@ -66,47 +58,42 @@ pub fn refused_by(n: u64) -> Difference {
     }
 }
 
-// The place of the next line.
-fn to_next_line(a: Agreed) -> Agreed {
-    match a {
-        Agreed::Until(at) => Agreed::Until(wrapping_add_usize(at, 1)),
-        Agreed::Not(d) => Agreed::Not(d),
-    }
-}
-
-// A datagram or a reset: it was accepted, and the thirteen numbers after it.
-fn call_agrees(found: &[u64; 13], answer: Answer, text: &[u8], at: usize) -> Agreed {
+// A datagram or a reset: it was accepted, and the thirteen numbers after it. The answer is the place of the next line.
+fn call_agrees(
+    found: &[u64; 13],
+    answer: Answer,
+    text: &[u8],
+    at: usize,
+) -> Result<usize, Difference> {
     let refused = refusal(answer);
     if refused != 0 {
-        return Agreed::Not(refused_by(refused));
+        return Err(refused_by(refused));
     }
-    to_next_line(agree(found, 0, text, at))
+    let end = agree(found, 0, text, at)?;
+    Ok(end.wrapping_add(1))
 }
 
 // A play: the thirteen numbers, what it answered, and the samples.
-fn play_agrees(found: &[u64; 13], answer: Answer, out: &[f32], text: &[u8], at: usize) -> Agreed {
+fn play_agrees(
+    found: &[u64; 13],
+    answer: Answer,
+    out: &[f32],
+    text: &[u8],
+    at: usize,
+) -> Result<usize, Difference> {
     let Answer::Played {
         taken,
         dropped,
         short,
     } = answer
     else {
-        return Agreed::Not(refused_by(refusal(answer)));
+        return Err(refused_by(refusal(answer)));
     };
-    let numbers = agree(found, 0, text, at);
-    let Agreed::Until(behind) = numbers else {
-        return numbers;
-    };
-    let amounts = agree(
-        &[taken as u64, dropped as u64, short as u64],
-        13,
-        text,
-        behind,
-    );
-    let Agreed::Until(last) = amounts else {
-        return amounts;
-    };
-    to_next_line(samples_agree(out, text, last))
+    let behind = agree(found, 0, text, at)?;
+    let amounts = [taken as u64, dropped as u64, short as u64];
+    let last = agree(&amounts, 13, text, behind)?;
+    let end = samples_agree(out, text, last)?;
+    Ok(end.wrapping_add(1))
 }
 
 // What a line's call left and answered. No play is longer than the output.
@@ -117,14 +104,14 @@ fn line_agrees(
     out: &[f32],
     text: &[u8],
     at: usize,
-) -> Agreed {
+) -> Result<usize, Difference> {
     let Act::Play(n) = a else {
         return call_agrees(found, answer, text, at);
     };
-    if n <= out.len() {
-        return play_agrees(found, answer, &out[0..n], text, at);
-    }
-    Agreed::Not(refused_by(99))
+    let Some(played) = out.get(..n) else {
+        return Err(refused_by(99));
+    };
+    play_agrees(found, answer, played, text, at)
 }
 
 fn push_at(text: &[u8], at: usize, side: Side) -> Parsed {
@@ -149,15 +136,14 @@ fn play_at(text: &[u8], at: usize) -> Parsed {
 
 // A line that is no call is a datagram of no bytes, which is refused.
 fn parsed_at(text: &[u8], at: usize, side: Side) -> Parsed {
-    let call = call_at(text, at);
-    match call {
-        Call::Push => push_at(text, at, side),
-        Call::Play => play_at(text, at),
-        Call::Reset => Parsed {
+    match call_at(text, at) {
+        Some(Call::Push) => push_at(text, at, side),
+        Some(Call::Play) => play_at(text, at),
+        Some(Call::Reset) => Parsed {
             act: Act::Reset,
             at,
         },
-        Call::Unknown => Parsed {
+        None => Parsed {
             act: Act::Datagram(sound(side, 0), 0, 0),
             at,
         },
@@ -184,19 +170,6 @@ fn step(
     Stepped { receiver, agreed }
 }
 
-// A session ends at an empty line, at the text's end, or at a difference.
-fn line_behind(a: Agreed, text: &[u8]) -> Line {
-    match a {
-        Agreed::Not(_) => Line::Missing,
-        Agreed::Until(at) => {
-            if ends_at(text, at) {
-                return Line::Missing;
-            }
-            Line::At(at)
-        }
-    }
-}
-
 fn other(side: Side) -> Side {
     match side {
         Side::A => Side::B,
@@ -204,19 +177,15 @@ fn other(side: Side) -> Side {
     }
 }
 
-// How a session of n calls on a channel ended: all its lines agree, the other channel is as it was, and the calls are
-// counted.
-fn ended(silent: &[u64; 13], counted: u64, side: Side, n: u64, a: Agreed) -> Ended {
-    let Agreed::Not(first) = a else {
-        let heard = same(silent, &[0u64; 13], 18);
-        let calls = same(&[counted], &[n], 19);
-        let last = and_then(heard, calls);
-        return ended_as(side, n, last);
-    };
-    Ended::Differs(side, n, first)
+// What a session of n calls on a channel leaves when all its lines agree: the other channel is as it was, and the calls
+// are counted.
+fn at_end(silent: &[u64; 13], counted: u64, n: u64) -> Result<(), Difference> {
+    same(silent, &[0u64; 13], 18)?;
+    same(&[counted], &[n], 19)
 }
 
-// The calls of one session, which has fewer than a hundred.
+// The calls of one session, which has fewer than a hundred. It ends at an empty line, at the text's end, or at a
+// difference.
 fn steps(
     begun: Receiver,
     side: Side,
@@ -225,22 +194,23 @@ fn steps(
     lent: Lent,
     text: &[u8],
     from: usize,
-) -> Ended {
+) -> Result<u64, Failed> {
     let mut r = begun;
-    let mut agreed = Agreed::Until(from);
-    let mut n: u64 = 0;
-    while n < 100 {
-        let line = line_behind(agreed, text);
-        let Line::At(at) = line else {
-            return ended(&numbers(r, other(side)), r.calls, side, n, agreed);
+    let mut agreed = Ok(from);
+    for n in 0..100 {
+        let at = match agreed {
+            Ok(at) => at,
+            Err(difference) => return ended_as(side, n, Err(difference)),
         };
+        if ends_at(text, at) {
+            return ended_as(side, n, at_end(&numbers(r, other(side)), r.calls, n));
+        }
         let mut out = [3.0f32; 128];
         let s = step(r, side, fs, us, lent, &mut out, text, at);
         r = s.receiver;
         agreed = s.agreed;
-        n += 1;
     }
-    Ended::Differs(side, n, refused_by(99))
+    ended_as(side, 100, Err(refused_by(99)))
 }
 
 // What a receiver of these sizes needs, exactly.
@@ -270,13 +240,13 @@ pub fn setup_on(z: Sizes, fs: &[f32], us: &mut [u32], lent: Lent) -> Opening {
 }
 
 // A session on one channel, whatever the free places hold.
-fn on(z: Sizes, side: Side, text: &[u8], at: usize) -> Ended {
+fn on(z: Sizes, side: Side, text: &[u8], at: usize) -> Result<u64, Failed> {
     let mut fs = [2.0f32; 1024];
     let mut us = [7u32; 64];
     let lent = needed(z);
     let begun = setup_on(z, &fs, &mut us, lent);
     match begun {
-        Opening::Refused(n) => Ended::Differs(side, 0, refused_by(n as u64)),
+        Opening::Refused(n) => ended_as(side, 0, Err(refused_by(u64::from(n)))),
         Opening::Ready(r) => steps(r, side, &mut fs, &mut us, lent, text, at),
     }
 }
@@ -291,7 +261,7 @@ fn on_both(t: Tally, text: &[u8], at: usize) -> Tally {
         target.value as usize,
         max.value as usize,
     );
-    let from = wrapping_add_usize(max.at, 1);
+    let from = max.at.wrapping_add(1);
     name(text, at);
     let first = on(z, Side::A, text, from);
     let second = on(z, Side::B, text, from);
@@ -302,14 +272,12 @@ fn on_both(t: Tally, text: &[u8], at: usize) -> Tally {
 pub fn run(t: Tally, text: &[u8]) -> Tally {
     let mut now = t;
     let mut at = 0;
-    let mut n: usize = 0;
-    while n < 100 {
+    for _ in 0..100 {
         if text.len() <= at {
             return now;
         }
         now = on_both(now, text, at);
         at = behind_empty_line(text, at);
-        n += 1;
     }
     now
 }

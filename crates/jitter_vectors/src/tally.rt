@@ -1,7 +1,6 @@
 // A session's line, and how many sessions and calls were run.
-use crate::compare::{Difference, Equality};
+use crate::compare::Difference;
 use calls::Side;
-use std::num::wrapping_add_u64;
 
 #[derive(Clone, Copy)]
 pub struct Tally {
@@ -10,30 +9,31 @@ pub struct Tally {
     pub calls: u64,
 }
 
-// How a session ended: so many calls equal, or the channel and its call that differs.
+// The channel and its call that differs.
 #[derive(Clone, Copy)]
-pub enum Ended {
-    Equal(u64),
-    Differs(Side, u64, Difference),
+pub struct Failed {
+    pub side: Side,
+    pub call: u64,
+    pub difference: Difference,
 }
 
-// The end of n calls of a channel.
-pub fn ended_as(side: Side, n: u64, last: Equality) -> Ended {
+// The end of n calls of a channel: so many calls equal, or the first difference.
+pub fn ended_as(side: Side, n: u64, last: Result<(), Difference>) -> Result<u64, Failed> {
     match last {
-        Equality::Holds => Ended::Equal(n),
-        Equality::Fails(d) => Ended::Differs(side, n, d),
+        Ok(()) => Ok(n),
+        Err(difference) => Err(Failed {
+            side,
+            call: n,
+            difference,
+        }),
     }
 }
 
 // The calls of both, or the first difference.
-pub fn in_turn(first: Ended, second: Ended) -> Ended {
-    let Ended::Equal(m) = first else {
-        return first;
-    };
-    let Ended::Equal(n) = second else {
-        return second;
-    };
-    Ended::Equal(wrapping_add_u64(m, n))
+pub fn in_turn(first: Result<u64, Failed>, second: Result<u64, Failed>) -> Result<u64, Failed> {
+    let m = first?;
+    let n = second?;
+    Ok(m.wrapping_add(n))
 }
 
 pub fn fresh() -> Tally {
@@ -77,10 +77,11 @@ fn channel(side: Side) {
     }
 }
 
-fn differs(side: Side, call: u64, d: Difference) {
-    channel(side);
+fn differs(failed: Failed) {
+    let d = failed.difference;
+    channel(failed.side);
     write(b" at call ");
-    number(call);
+    number(failed.call);
     write(b",");
     name(d.what);
     if 16 <= d.what {
@@ -95,27 +96,23 @@ fn differs(side: Side, call: u64, d: Difference) {
 }
 
 // Ends a session's line.
-pub fn tallied(t: Tally, e: Ended) -> Tally {
-    let sessions = wrapping_add_u64(t.sessions, 1);
-    match e {
-        Ended::Equal(calls) => {
+pub fn tallied(t: Tally, ended: Result<u64, Failed>) -> Tally {
+    let sessions = t.sessions.wrapping_add(1);
+    match ended {
+        Ok(calls) => {
             write(b": ok, ");
             number(calls);
             write(b" calls\n");
             Tally {
                 sessions,
-                equal: wrapping_add_u64(t.equal, 1),
-                calls: wrapping_add_u64(t.calls, calls),
+                equal: t.equal.wrapping_add(1),
+                calls: t.calls.wrapping_add(calls),
             }
         }
-        Ended::Differs(side, call, d) => {
+        Err(failed) => {
             write(b": DIFFERS on ");
-            differs(side, call, d);
-            Tally {
-                sessions,
-                equal: t.equal,
-                calls: t.calls,
-            }
+            differs(failed);
+            Tally { sessions, ..t }
         }
     }
 }

@@ -1,6 +1,5 @@
 // The numbers in a session's text.
 use crate::tally::begun;
-use std::num::wrapping_add_usize;
 
 #[derive(Clone, Copy)]
 pub struct Number {
@@ -9,70 +8,64 @@ pub struct Number {
     pub at: usize,
 }
 
-fn is_digit(b: u8) -> bool {
-    if b < 48 { false } else { b <= 57 }
-}
-
 // One decimal digit more. No number of a session is as long as the bound.
 fn with_digit(value: u64, digit: u8) -> u64 {
-    if value < 1000000000000 && 48 <= digit {
-        return value * 10 + (digit - 48) as u64;
+    if value < 1000000000000 && b'0' <= digit {
+        return value * 10 + u64::from(digit - b'0');
     }
     value
 }
 
-// The place of the next digit.
+// The place of the next digit, or the text's end.
 fn digit_from(text: &[u8], from: usize) -> usize {
-    let mut at = from;
-    while at < text.len() {
-        if is_digit(text[at]) {
+    for at in from..text.len() {
+        if text[at].is_ascii_digit() {
             return at;
         }
-        at += 1;
     }
-    at
+    from.max(text.len())
 }
 
 // The next decimal number.
 pub fn decimal(text: &[u8], from: usize) -> Number {
-    let mut at = digit_from(text, from);
+    let first = digit_from(text, from);
     let mut value = 0;
-    while at < text.len() {
-        if !is_digit(text[at]) {
+    for at in first..text.len() {
+        if !text[at].is_ascii_digit() {
             return Number { value, at };
         }
         value = with_digit(value, text[at]);
-        at += 1;
     }
-    Number { value, at }
+    Number {
+        value,
+        at: first.max(text.len()),
+    }
 }
 
 // A digit of base 16.
 fn hex_digit(b: u8) -> u64 {
-    if is_digit(b) {
-        return with_digit(0, b);
+    match b {
+        b'0'..=b'9' => u64::from(b - b'0'),
+        b'a'..=b'f' => u64::from(b - b'a' + 10),
+        _ => 0,
     }
-    if b < 97 { 0 } else { (b - 87) as u64 % 16 }
 }
 
 // One digit of base 16 more; a pattern has eight.
 fn with_hex_digit(value: u64, b: u8) -> u64 {
-    let digit = hex_digit(b) % 16;
-    value % 268435456 * 16 + digit
+    value % 268435456 * 16 + hex_digit(b) % 16
 }
 
 // The next eight digits of base 16, behind a space.
 pub fn pattern(text: &[u8], from: usize) -> Number {
-    let mut at = wrapping_add_usize(from, 1);
+    let mut at = from.wrapping_add(1);
     let mut value: u64 = 0;
-    let mut n: usize = 0;
-    while n < 8 {
-        if text.len() <= at {
+    for _ in 0..8 {
+        let Some(digit) = text.get(at) else {
             return Number { value, at };
-        }
-        value = with_hex_digit(value, text[at]);
+        };
+        value = with_hex_digit(value, *digit);
         at += 1;
-        n += 1;
     }
     Number { value, at }
 }
@@ -80,7 +73,7 @@ pub fn pattern(text: &[u8], from: usize) -> Number {
 // Whether a session ends at a place: an empty line or the text's end.
 pub fn ends_at(text: &[u8], at: usize) -> bool {
     if at < text.len() {
-        text[at] == 10
+        text[at] == b'\n'
     } else {
         true
     }
@@ -88,17 +81,15 @@ pub fn ends_at(text: &[u8], at: usize) -> bool {
 
 // The place behind the next empty line.
 pub fn behind_empty_line(text: &[u8], from: usize) -> usize {
-    let mut at = from;
     let mut new_line = false;
-    while at < text.len() {
-        let line_end = text[at] == 10;
-        at += 1;
+    for at in from..text.len() {
+        let line_end = text[at] == b'\n';
         if new_line && line_end {
-            return at;
+            return at + 1;
         }
         new_line = line_end;
     }
-    at
+    from.max(text.len())
 }
 
 // Prints a session's name: what stands before its first number.
@@ -118,24 +109,14 @@ pub enum Call {
     Push,
     Play,
     Reset,
-    Unknown,
 }
 
-// A push, a play and a reset differ in their second letters.
-pub fn call_at(text: &[u8], at: usize) -> Call {
-    let second = wrapping_add_usize(at, 1);
-    if text.len() <= second {
-        return Call::Unknown;
+// A push, a play and a reset differ in their second letters. None: the line is no call.
+pub fn call_at(text: &[u8], at: usize) -> Option<Call> {
+    match text.get(at.wrapping_add(1)) {
+        Some(b'u') => Some(Call::Push),
+        Some(b'l') => Some(Call::Play),
+        Some(b'e') => Some(Call::Reset),
+        _ => None,
     }
-    let letter = text[second];
-    if letter == 117 {
-        return Call::Push;
-    }
-    if letter == 108 {
-        return Call::Play;
-    }
-    if letter == 101 {
-        return Call::Reset;
-    }
-    Call::Unknown
 }

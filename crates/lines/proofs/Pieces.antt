@@ -1,19 +1,22 @@
 -- Pieces of text, from parts that fitted one behind the other. Assumes nothing.
-use Prim.Native.Nat.{ℕ, ◌+◌, ◌*◌, ◌≤◌, ◌<◌, ◌^◌}
+use Prim.Native.Nat.{ℕ, ◌+◌, ◌*◌, ◌≤◌, ◌<◌}
 use mathlib.Core.Path.{◌≡◌, refl, sym, ◌∙◌, ap}
 use mathlib.Core.Bool.{true≢false}
-use mathlib.Core.Option.{Option}
+use mathlib.Core.Option as maybe
 use mathlib.Core.List.{List, [], ◌∷◌, ◌++◌, map, append_assoc}
 use native.Mathlib.Omega.{arith}
 use lib.ListN.{length, take, drop, set, get_or, length-append, length-set, take-append-drop}
 use lib.IntN.{ℤ}
 use lib.Ieee.{Float}
+use mir.Syntax.{w64}
+use mir.Val.{Fits}
 use borrow.Author.Tests.{le-leb, lt-leb}
+use Rattle.model.specs.Bytes.{placed}
 use Rattle.model.specs.Framing.{Side}
 use Rattle.model.specs.JitterBuffer.{Counters, Played}
 use Rattle.model.specs.Clock as Clock
 use Rattle.model.specs.Replay.{decimal, hex_bits, line, rest, or_dash, side_letter, play_line, row_line, refused_line, bad_tape_line, channel_line, clock_line}
-use Rattle.text.specs.declared.Put.TheVariants.{Next, NoRoom}
+use Rattle.std.proofs.Common.{Option, Some, None}
 use Rattle.text.proofs.FittedLaws.{Fitted, fitted_behind}
 use Rattle.text.proofs.WrittenLaws.{byte_placed}
 use Rattle.lines.specs.Lines.{spaced, head, offset_word, round_trip_word, clock_text, Piece}
@@ -22,12 +25,23 @@ use Rattle.lines.proofs.WordLaws.{rest_is_spaced, spaced_append, numbers_few, fi
 -- ---- a piece
 
 pub written_piece : {most : ℕ} {text entry exit : List ℕ} {next : ℕ} → length text ≤ most → most ≤ length entry → Fitted text 0 entry exit next
-    → Piece most text entry exit (Next next)
+    → Piece most text entry exit (Some next)
 written_piece {most} {text} {entry} few room f =
-    record { few = λ fits. few; answered = rw (le-leb most (length entry) room) (ap Next (rw f.place (omega arith))); target = rw (le-leb most (length entry) room) f.target }
+    record { few = λ fits. few; answered = rw (le-leb most (length entry) room) (ap Some (rw f.place (omega arith))); target = rw (le-leb most (length entry) room) f.target }
 
-pub no_piece : (most : ℕ) (text entry : List ℕ) → length entry < most → Piece most text entry entry NoRoom
+pub no_piece : (most : ℕ) (text entry : List ℕ) → length entry < most → Piece most text entry entry None
 no_piece most text entry short = record { few = λ fits. absurd (true≢false (sym fits ∙ lt-leb most (length entry) short)); answered = rw (lt-leb most (length entry) short); target = rw (lt-leb most (length entry) short) }
+
+-- with room for the most that it can have, a piece is written
+module _ {most : ℕ} {text entry exit : List ℕ} {answer : Option ℕ} (piece : Piece most text entry exit answer) (room : most ≤ length entry) where
+  pub piece_answered : answer ≡ Some (length text)
+  piece_answered = rw (le-leb most (length entry) room) at piece.answered
+
+  pub piece_length : {n : ℕ} → answer ≡ Some n → n ≡ length text
+  piece_length is = let answered = piece_answered in cc
+
+  pub piece_target : exit ≡ placed 0 text entry
+  piece_target = rw (le-leb most (length entry) room) at piece.target
 
 -- one byte
 pub byte_fitted : (b at : ℕ) (xs : List ℕ) → at < length xs → Fitted (b ∷ []) at xs (set xs at b) (at + 1)
@@ -35,7 +49,7 @@ byte_fitted b at xs inside = record { room = omega arith; place = refl; target =
 
 -- ---- a letter and numbers, to the line's end
 
-module _ (letter : ℕ) (numbers : List ℕ) (wide : (i : ℕ) → get_or numbers i 0 < 2 ^ 64) where
+module _ (letter : ℕ) (numbers : List ℕ) (wide : (i : ℕ) → Fits w64 (get_or numbers i 0)) where
   abbrev text : List ℕ
   text = line letter (map decimal numbers)
 
@@ -77,7 +91,7 @@ module _ (letter : ℕ) (numbers : List ℕ) (wide : (i : ℕ) → get_or number
 
 -- ---- the clock
 
-module _ (t : Option Clock.Timing) (delay : Option ℤ) where
+module _ (t : maybe.Option Clock.Timing) (delay : maybe.Option ℤ) where
   clock_is : clock_text t delay ≡ ((((67 ∷ []) ++ (32 ∷ offset_word t)) ++ (32 ∷ round_trip_word t)) ++ (32 ∷ or_dash delay)) ++ (10 ∷ [])
   unfolding clock_text line rest
   clock_is = simp append_assoc
@@ -98,7 +112,7 @@ module _ (t : Option Clock.Timing) (delay : Option ℤ) where
     pub clock_kept : length e ≡ length entry
     clock_kept = lengths.2
 
-    pub clock_written : Piece 65 (clock_text t delay) entry (set e third 10) (Next (third + 1))
+    pub clock_written : Piece 65 (clock_text t delay) entry (set e third 10) (Some (third + 1))
     clock_written =
         let all = rw (← clock_is)
         at (fitted_behind (fitted_behind (fitted_behind (fitted_behind (byte_fitted 67 0 entry (omega arith)) one.0) two.0) three.0)

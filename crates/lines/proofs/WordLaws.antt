@@ -6,17 +6,17 @@ use native.Mathlib.Omega.{arith}
 use native.Mathlib.Numerals.{add-one}
 use lib.ListN.{length, take, get_or, length-append}
 use lib.Seq.{take-suc}
-use Rattle.model.specs.Replay.{decimal, signed_decimal, hex_digits, hex_bits, rest}
+use Rattle.model.specs.Replay.{decimal, signed_decimal, hex_bits, rest}
 use Rattle.model.specs.Floats.{to_bits}
 use Rattle.model.proofs.Decimal.{decimal_at_most, hex_digits_length}
 use Rattle.model.proofs.ListLaws.{placed_length}
 use lib.IntN.{ℤ, pos, negsuc}
 use lib.Ieee.{Float}
 use mir.Syntax.{w64}
-use mir.Val.{SFits}
+use mir.Val.{Fits, SFits}
 use Rattle.text.specs.Promises.{Written}
-use Rattle.text.specs.declared.Put.TheVariants.{Next, NoRoom}
-use Rattle.text.proofs.FittedLaws.{Fitted, next_fitted, no_room_did_not_fit, fitted_behind}
+use Rattle.std.proofs.Common.{Option, Some, IsSome}
+use Rattle.text.proofs.FittedLaws.{Fitted, some_answered, answer_fitted, fitted_behind}
 use Rattle.text.proofs.WrittenLaws.{none_placed}
 use Rattle.lines.specs.Lines.{spaced}
 
@@ -55,27 +55,23 @@ module _ {A : Type 0} (f : A → List ℕ) (d : A) where
   one_word_more xs i h before one = rw (words_one_more xs i h) (fitted_behind before one)
 
 -- numbers of 64 bits take at most 21 bytes each
-pub numbers_few : (xs : List ℕ) → ((i : ℕ) → get_or xs i 0 < 2 ^ 64) → length (spaced (map decimal xs)) ≤ 21 * length xs
+pub numbers_few : (xs : List ℕ) → ((i : ℕ) → Fits w64 (get_or xs i 0)) → length (spaced (map decimal xs)) ≤ 21 * length xs
 unfolding spaced
 numbers_few [] wide = omega arith
 numbers_few (x ∷ xs) wide =
-    omega (arith, digits_few x (wide 0), numbers_few xs (λ i. wide (suc i)), length-append (decimal x) (spaced (map decimal xs)))
+    omega (arith, digits_few x (wide 0).fits, numbers_few xs (λ i. wide (suc i)), length-append (decimal x) (spaced (map decimal xs)))
 
--- ---- a part that was bound to fit
+-- ---- a space, and then a word
 
-pub had_room : {bytes : List ℕ} {at : ℕ} {entry exit : List ℕ} → Written bytes at entry exit NoRoom → at + length bytes ≤ length entry → ⊥
-had_room w fits = let no = no_room_did_not_fit w in omega (arith, no.short)
+module _ (word : List ℕ) {at from : ℕ} {first middle last : List ℕ} {space letters : Option ℕ} (before : Written (32 ∷ []) at first middle space) (behind : space ≡ Some from)
+    (written : Written word from middle last letters) where
+  pub word_answered : at + suc (length word) ≤ length first → IsSome letters
+  word_answered fits =
+      let f = answer_fitted before behind in
+      some_answered written (rw (f.target, f.place) (omega (arith, fits, placed_length at (32 ∷ []) first f.room)))
 
--- a space, and then a number
-pub number_fitted : (n : ℕ) {at from next : ℕ} {first middle last : List ℕ} → Written (32 ∷ []) at first middle (Next from) → Written (decimal n) from middle last (Next next)
-    → Fitted (32 ∷ decimal n) at first last next
-number_fitted n space digits = fitted_behind (next_fitted space) (next_fitted digits)
-
-pub number_had_room : (n : ℕ) {at from : ℕ} {first middle last : List ℕ} → Written (32 ∷ []) at first middle (Next from) → Written (decimal n) from middle last NoRoom
-    → n < 2 ^ 64 → at + 21 ≤ length first → ⊥
-number_had_room n {at} {from} {first} space digits wide fits =
-    let f = next_fitted space in
-    had_room digits (rw (f.target, f.place) (omega (arith, digits_few n wide, placed_length at (32 ∷ []) first f.room)))
+  pub word_fitted : {next : ℕ} → letters ≡ Some next → Fitted (32 ∷ word) at first last next
+  word_fitted answered = fitted_behind (answer_fitted before behind) (answer_fitted written answered)
 
 -- ---- numbers one behind the other
 
@@ -97,17 +93,6 @@ unfolding spaced
 values_length [] = refl
 values_length (x ∷ xs) = omega (arith, bits_length x, values_length xs, length-append (hex_bits x) (spaced (map hex_bits xs)))
 
-pub value_fitted : (x : Float) {at from next : ℕ} {first middle last : List ℕ} → Written (32 ∷ []) at first middle (Next from) → Written (hex_digits 8 (to_bits x)) from middle last (Next next)
-    → Fitted (32 ∷ hex_bits x) at first last next
-unfolding hex_bits
-value_fitted x space digits = fitted_behind (next_fitted space) (next_fitted digits)
-
-pub value_had_room : (bits : ℕ) {at from : ℕ} {first middle last : List ℕ} → Written (32 ∷ []) at first middle (Next from) → Written (hex_digits 8 bits) from middle last NoRoom
-    → at + 9 ≤ length first → ⊥
-value_had_room bits {at} {from} {first} space digits fits =
-    let f = next_fitted space in
-    had_room digits (rw (f.target, f.place) (omega (arith, hex_digits_length 8 bits, placed_length at (32 ∷ []) first f.room)))
-
 -- ---- signed numbers
 
 -- a signed number of 64 bits has at most 20 characters
@@ -115,13 +100,3 @@ pub signed_few : (z : ℤ) → SFits w64 z → length (signed_decimal z) ≤ 20
 unfolding signed_decimal
 signed_few (pos n) fits = decimal_at_most 19 n (omega (arith, fits.sfits))
 signed_few (negsuc n) fits = omega (arith, decimal_at_most 18 (suc n) (omega (arith, fits.sfits)))
-
-pub signed_fitted : (z : ℤ) {at from next : ℕ} {first middle last : List ℕ} → Written (32 ∷ []) at first middle (Next from) → Written (signed_decimal z) from middle last (Next next)
-    → Fitted (32 ∷ signed_decimal z) at first last next
-signed_fitted z space digits = fitted_behind (next_fitted space) (next_fitted digits)
-
-pub signed_had_room : (z : ℤ) {at from : ℕ} {first middle last : List ℕ} → Written (32 ∷ []) at first middle (Next from) → Written (signed_decimal z) from middle last NoRoom
-    → SFits w64 z → at + 21 ≤ length first → ⊥
-signed_had_room z {at} {from} {first} space digits wide fits =
-    let f = next_fitted space in
-    had_room digits (rw (f.target, f.place) (omega (arith, signed_few z wide, placed_length at (32 ∷ []) first f.room)))

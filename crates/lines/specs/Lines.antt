@@ -1,13 +1,11 @@
 -- The words of a line, and what a piece of text promises. Assumes nothing.
-use Rattle.std.specs.Prelude.{ℕ, ◌*◌, ◌/◌, ◌≤◌, min, ◌≡◌, true, cond, List, [], ◌∷◌, ◌++◌, map, length, take, ℤ, pos, Float, leb}
-use Rattle.std.proofs.Math.Option.{Option}
+use Rattle.std.specs.Prelude.{ℕ, ◌*◌, ◌/◌, ◌≤◌, min, ◌≡◌, true, cond, List, [], ◌∷◌, ◌++◌, map, length, take, ℤ, pos, Float, leb, Option, Some, None}
+use Rattle.std.proofs.Math.Option as maybe
 use Rattle.model.specs.Bytes.{placed}
 use Rattle.model.specs.Framing.{Side}
 use Rattle.model.specs.Clock as Clock
 use Rattle.model.specs.Clock.{reading}
 use Rattle.model.specs.Replay.{decimal, hex_bits, line, side_letter, or_dash}
-use Rattle.text.specs.declared.Put.{Put}
-use Rattle.text.specs.declared.Put.TheVariants.{Next, NoRoom}
 
 -- words, each after a space
 unfoldable pub spaced : List (List ℕ) → List ℕ
@@ -19,19 +17,19 @@ unfoldable pub head : ℕ → Side → List ℕ → List ℕ
 head letter side numbers = letter ∷ spaced ((side_letter side ∷ []) ∷ map decimal numbers)
 
 -- the clock's words, with a dash for what is absent
-abbrev pub offset_word : Option Clock.Timing → List ℕ
+abbrev pub offset_word : maybe.Option Clock.Timing → List ℕ
 offset_word t = or_dash (reading (λ k. k.offset) t)
 
-abbrev pub round_trip_word : Option Clock.Timing → List ℕ
+abbrev pub round_trip_word : maybe.Option Clock.Timing → List ℕ
 round_trip_word t = or_dash (reading (λ k. pos k.round_trip) t)
 
-unfoldable pub clock_text : Option Clock.Timing → Option ℤ → List ℕ
+unfoldable pub clock_text : maybe.Option Clock.Timing → maybe.Option ℤ → List ℕ
 clock_text t delay = line 67 (offset_word t ∷ round_trip_word t ∷ or_dash delay ∷ [])
 
 -- A piece of text at the front of lent bytes: it is written where the most that such a piece can have would fit, and else nothing is.
-pub record Piece (most : ℕ) (text : List ℕ) (entry exit : List ℕ) (answer : Put) : Type 0 where
+pub record Piece (most : ℕ) (text : List ℕ) (entry exit : List ℕ) (answer : Option ℕ) : Type 0 where
   pub few : leb most (length entry) ≡ true → length text ≤ most
-  pub answered : answer ≡ cond (leb most (length entry)) (Next (length text)) NoRoom
+  pub answered : answer ≡ cond (leb most (length entry)) (Some (length text)) None
   pub target : exit ≡ cond (leb most (length entry)) (placed 0 text entry) entry
 
 -- the bits of so many values stand at the front, each after a space

@@ -1,31 +1,23 @@
 // Lines of replay's output, as pieces of text at the front of lent bytes.
 #![tactic(auto)]
 
-ghost use Rattle.std.specs.Prelude.{[], ◌∷◌, map, ◌≡◌, ◌+◌, ◌*◌, ◌≤◌, min, length};
+ghost use Rattle.std.specs.Prelude.{[], ◌∷◌, map, ◌≡◌, ◌+◌, ◌*◌, ◌≤◌, length, nat_le};
 ghost use Rattle.model.specs.Replay.{decimal, signed_decimal, hex_bits, line, side_letter, or_dash};
 ghost use Rattle.audio_metrics.specs.Views.{timing_of, delay_of};
 ghost use Rattle.calls.specs.Views.{model_side};
 ghost use Rattle.text.proofs.FittedLaws.{Fitted};
 ghost use Rattle.lines.specs.Lines.{spaced, head, offset_word, round_trip_word, clock_text, Piece, ValuesWritten};
 
-use audio_metrics::{OneWay, Timing};
+use audio_metrics::ClockTiming;
 use calls::Side;
-use text::Put;
 
 // A space and a number in decimal; the answer is the place behind them.
 fn put_number(out: &mut [u8], at: usize, n: u64) -> usize
     requires { at + 21 ≤ length out.old }
     ensures { Fitted (32 ∷ decimal n) at out.old out.new result }
 {
-    let space = text::put_byte(out, at, b' ');
-    let Put::Next(from) = space else {
-        return at;
-    };
-    let digits = text::put_decimal(out, from, n);
-    let Put::Next(next) = digits else {
-        return at;
-    };
-    next
+    let from = text::put_byte(out, at, b' ').unwrap();
+    text::put_decimal(out, from, n).unwrap()
 }
 
 // Numbers, each after a space; the answer is the place behind them.
@@ -34,28 +26,30 @@ fn put_numbers(out: &mut [u8], at: usize, numbers: &[u64]) -> usize
     ensures { Fitted (spaced (map decimal numbers.now)) at out.old out.new result }
 {
     let mut next = at;
-    let mut i = 0;
-    while i < numbers.len() {
-        next = put_number(out, next, numbers[i]);
-        i += 1;
+    for n in numbers {
+        next = put_number(out, next, *n);
     }
     next
 }
 
+// Whether so many bytes, and the most that so many numbers take, are at most so many.
+fn has_room(len: usize, bytes: usize, numbers: usize) -> bool
+    ensures { result ≡ nat_le (bytes + 21 * numbers) len }
+{
+    bytes <= len && numbers <= (len - bytes) / 21
+}
+
 // A letter and numbers, to the line's end.
-pub fn put_line(out: &mut [u8], letter: u8, numbers: &[u64]) -> Put
+pub fn put_line(out: &mut [u8], letter: u8, numbers: &[u64]) -> Option<usize>
     ensures { Piece (2 + 21 * length numbers.now) (line letter (map decimal numbers.now)) out.old out.new result }
 {
-    if out.len() < 2 {
-        return Put::NoRoom;
-    }
-    if (out.len() - 2) / 21 < numbers.len() {
-        return Put::NoRoom;
+    if !has_room(out.len(), 2, numbers.len()) {
+        return None;
     }
     out[0] = letter;
     let end = put_numbers(out, 1, numbers);
     out[end] = b'\n';
-    Put::Next(end + 1)
+    Some(end + 1)
 }
 
 // A space and a float's bits in hexadecimal; the answer is the place behind them.
@@ -63,35 +57,20 @@ fn put_value(out: &mut [u8], at: usize, x: f32) -> usize
     requires { at + 9 ≤ length out.old }
     ensures { Fitted (32 ∷ hex_bits x) at out.old out.new result }
 {
-    let space = text::put_byte(out, at, b' ');
-    let Put::Next(from) = space else {
-        return at;
-    };
-    let digits = text::put_hex(out, from, floats::to_bits(x));
-    let Put::Next(next) = digits else {
-        return at;
-    };
-    next
-}
-
-fn least(a: usize, b: usize) -> usize
-    ensures { result ≡ min a b }
-{
-    if a < b { a } else { b }
+    let from = text::put_byte(out, at, b' ').unwrap();
+    text::put_hex(out, from, floats::to_bits(x)).unwrap()
 }
 
 // The bits of as many values as the bytes have room for, each after a space and in nine bytes; the answer is how many.
 pub fn put_values(out: &mut [u8], values: &[f32]) -> usize
     ensures { ValuesWritten values.now out.old out.new result }
 {
-    let n = least(values.len(), out.len() / 9);
+    let fitting = &values[..values.len().min(out.len() / 9)];
     let mut next = 0;
-    let mut i = 0;
-    while i < n {
-        next = put_value(out, next, values[i]);
-        i += 1;
+    for x in fitting {
+        next = put_value(out, next, *x);
     }
-    n
+    fitting.len()
 }
 
 pub fn side_letter(side: Side) -> u8
@@ -104,19 +83,16 @@ pub fn side_letter(side: Side) -> u8
 }
 
 // A letter, a channel and numbers: how a line of a play or of a row begins.
-pub fn put_head(out: &mut [u8], letter: u8, side: Side, numbers: &[u64]) -> Put
+pub fn put_head(out: &mut [u8], letter: u8, side: Side, numbers: &[u64]) -> Option<usize>
     ensures { Piece (3 + 21 * length numbers.now) (head letter (model_side side) numbers.now) out.old out.new result }
 {
-    if out.len() < 3 {
-        return Put::NoRoom;
-    }
-    if (out.len() - 3) / 21 < numbers.len() {
-        return Put::NoRoom;
+    if !has_room(out.len(), 3, numbers.len()) {
+        return None;
     }
     out[0] = letter;
     out[1] = b' ';
     out[2] = side_letter(side);
-    Put::Next(put_numbers(out, 3, numbers))
+    Some(put_numbers(out, 3, numbers))
 }
 
 // A space and a signed number in decimal; the answer is the place behind them.
@@ -124,15 +100,8 @@ fn put_signed(out: &mut [u8], at: usize, n: i64) -> usize
     requires { at + 21 ≤ length out.old }
     ensures { Fitted (32 ∷ signed_decimal n) at out.old out.new result }
 {
-    let space = text::put_byte(out, at, b' ');
-    let Put::Next(from) = space else {
-        return at;
-    };
-    let digits = text::put_signed(out, from, n);
-    let Put::Next(next) = digits else {
-        return at;
-    };
-    next
+    let from = text::put_byte(out, at, b' ').unwrap();
+    text::put_signed(out, from, n).unwrap()
 }
 
 // A space and a dash, for a number that is absent; the answer is the place behind them.
@@ -145,47 +114,47 @@ fn put_dash(out: &mut [u8], at: usize) -> usize
     at + 2
 }
 
-fn put_offset(out: &mut [u8], at: usize, timing: Timing) -> usize
+fn put_offset(out: &mut [u8], at: usize, timing: Option<ClockTiming>) -> usize
     requires { at + 21 ≤ length out.old }
     ensures { Fitted (32 ∷ offset_word (timing_of timing)) at out.old out.new result × (result ≤ at + 21) }
 {
     match timing {
-        Timing::Unknown => put_dash(out, at),
-        Timing::Known(t) => put_signed(out, at, t.offset_ns),
+        Some(t) => put_signed(out, at, t.offset_ns),
+        None => put_dash(out, at),
     }
 }
 
-fn put_round_trip(out: &mut [u8], at: usize, timing: Timing) -> usize
+fn put_round_trip(out: &mut [u8], at: usize, timing: Option<ClockTiming>) -> usize
     requires { at + 21 ≤ length out.old }
     ensures { Fitted (32 ∷ round_trip_word (timing_of timing)) at out.old out.new result × (result ≤ at + 21) }
 {
     match timing {
-        Timing::Unknown => put_dash(out, at),
-        Timing::Known(t) => put_number(out, at, t.rtt_ns),
+        Some(t) => put_number(out, at, t.rtt_ns),
+        None => put_dash(out, at),
     }
 }
 
-fn put_delay(out: &mut [u8], at: usize, one_way: OneWay) -> usize
+fn put_delay(out: &mut [u8], at: usize, one_way: Option<i64>) -> usize
     requires { at + 21 ≤ length out.old }
     ensures { Fitted (32 ∷ or_dash (delay_of one_way)) at out.old out.new result × (result ≤ at + 21) }
 {
     match one_way {
-        OneWay::Unknown => put_dash(out, at),
-        OneWay::Known(n) => put_signed(out, at, n),
+        Some(n) => put_signed(out, at, n),
+        None => put_dash(out, at),
     }
 }
 
 // The clock's line: offset, round trip and one-way delay in nanoseconds, or a dash.
-pub fn put_clock(out: &mut [u8], timing: Timing, one_way: OneWay) -> Put
+pub fn put_clock(out: &mut [u8], timing: Option<ClockTiming>, one_way: Option<i64>) -> Option<usize>
     ensures { Piece 65 (clock_text (timing_of timing) (delay_of one_way)) out.old out.new result }
 {
     if out.len() < 65 {
-        return Put::NoRoom;
+        return None;
     }
     out[0] = b'C';
     let first = put_offset(out, 1, timing);
     let second = put_round_trip(out, first, timing);
     let third = put_delay(out, second, one_way);
     out[third] = b'\n';
-    Put::Next(third + 1)
+    Some(third + 1)
 }

@@ -1,26 +1,16 @@
 -- Numbers stored one after the other, as far as a slice goes. Assumes nothing.
-use Prim.Native.Nat.{ℕ, suc, ◌+◌, ◌-◌, ◌≤◌, ◌<◌, min}
+use Prim.Native.Nat.{ℕ, suc, ◌+◌, ◌-◌, ◌≤◌, min}
 use mathlib.Core.Path.{◌≡◌, refl, sym, ◌∙◌, ap}
 use mathlib.Core.Bool.{Bool, true, false}
-use mathlib.Core.List.{List, [], ◌∷◌, ◌++◌}
+use mathlib.Core.List.{List, [], ◌∷◌, ◌++◌, append_assoc}
 use native.Mathlib.Nat.{add-zero}
-use native.Mathlib.Numerals.{add-one}
 use native.Mathlib.Omega.{arith}
-use lib.ListN.{length, take, drop, set, get_or, length-take, length-drop, take-append-drop}
+use lib.ListN.{length, take, drop, set, length-take, length-drop, take-append-drop}
 use lib.Dec.{leb}
 use borrow.Author.Tests.{leb-true, leb-false}
-use lib.Seq.{sets, length-sets, set_out, take-suc, take_all}
-
--- one word more
-sets_behind : (w : List ℕ) (at : ℕ) (xs : List ℕ) (x : ℕ) → sets w at (xs ++ (x ∷ [])) ≡ set (sets w at xs) (at + length xs) x
-sets_behind w at [] x = ap (λ (i : ℕ). set w i x) (sym (add-zero at))
-sets_behind w at (y ∷ xs) x = sets_behind (set w at y) (suc at) xs x ∙ ap (λ (i : ℕ). set (sets (set w at y) (suc at) xs) i x) (omega arith)
-
-pub sets_one_more : (w : List ℕ) (at : ℕ) (xs : List ℕ) (i : ℕ) → i < length xs → set (sets w at (take i xs)) (at + i) (get_or xs i 0) ≡ sets w at (take (i + 1) xs)
-sets_one_more w at xs i h =
-    let long : length (take i xs) ≡ i = simp length-take (omega arith) in
-    let behind = rw long at (sets_behind w at (take i xs) (get_or xs i 0)) in
-    rw (add-one, take-suc xs i 0) (sym behind)
+use lib.Seq.{sets, length-sets, set_out, take_all, drop-drop}
+use borrow.Rule.Slice.PartMut.{put_mid}
+use Rattle.std.proofs.lemmas.List.Edits.{sets-eq}
 
 -- the words from a place on
 pub rest_is : (w : List ℕ) (at : ℕ) → take (length w - at) (drop at w) ≡ drop at w
@@ -49,6 +39,10 @@ sets_fitting w at i xs inside is = whether (leb (length xs) (length w - at)) ref
     whether : (b : Bool) → leb (length xs) (length w - at) ≡ b → sets w at (take i xs) ≡ sets w at xs
     whether true e = ap (sets w at) (take_all i xs (omega (arith, leb-true (length xs) (length w - at) e)))
     whether false e = let more = leb-false (length xs) (length w - at) e in sets_to_end w at i xs (omega arith) (omega arith)
+
+-- a part that is overwritten by as many numbers as it has
+pub sets_of_part : (w xs : List ℕ) (at k : ℕ) → at + k ≤ length w → length xs ≡ k → put_mid at k w xs ≡ sets w at xs
+sets_of_part w xs at k inside long = rw (sets-eq xs w at (omega arith), long, drop-drop k at w, append_assoc)
 
 -- words stored right behind the first k
 pub then : (w xs : List ℕ) {v v' ys zs : List ℕ} (k : ℕ) → length xs ≡ k → v ≡ sets w 0 xs → v' ≡ sets v k zs → zs ≡ ys → v' ≡ sets w 0 (xs ++ ys)

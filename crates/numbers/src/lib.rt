@@ -1,14 +1,8 @@
 // Numbers in a slice that a caller in another language lends.
 #![tactic(auto)]
 
-ghost use Rattle.std.specs.Prelude.{◌≡◌, ◌+◌, min};
+ghost use Rattle.std.specs.Prelude.{◌≡◌};
 ghost use Rattle.std.proofs.lemmas.List.Edits.{sets};
-
-fn least(a: usize, b: usize) -> usize
-    ensures { result ≡ min a b }
-{
-    if a < b { a } else { b }
-}
 
 // Stores the numbers from a place on, as far as the slice goes.
 pub fn put(out: &mut [u64], at: usize, numbers: &[u64])
@@ -17,10 +11,6 @@ pub fn put(out: &mut [u64], at: usize, numbers: &[u64])
     if out.len() <= at {
         return;
     }
-    let n = least(numbers.len(), out.len() - at);
-    let mut i = 0;
-    while i < n {
-        out[at + i] = numbers[i];
-        i += 1;
-    }
+    let n = numbers.len().min(out.len() - at);
+    out[at..at + n].copy_from_slice(&numbers[..n]);
 }

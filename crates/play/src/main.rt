@@ -10,12 +10,11 @@ mod saying;
 
 ghost use Rattle.io.specs.Counts.{IsPrefixLen};
 
-use files::{File, Opened};
+use files::File;
 use playback_parts::Form;
 use progress::Progress;
 use std::env::{Env, FillError};
 use tape::Setup;
-use tape_files::Verdict;
 
 const WINDOW: usize = 524288;
 
@@ -65,20 +64,6 @@ fn lend_words(file: &File, setup: Setup, form: Form, shown: Progress, window: &m
     lend_floats(file, setup, form, shown, window, &mut us);
 }
 
-fn same(a: &[u8], b: &[u8]) -> bool {
-    if a.len() != b.len() {
-        return false;
-    }
-    let mut i = 0;
-    while i < a.len() {
-        if a[i] != b[i] {
-            return false;
-        }
-        i += 1;
-    }
-    true
-}
-
 // How many arguments there are, the program's name among them.
 fn argument_count(rt: HostRuntime) -> usize {
     let mut word = io::buffer();
@@ -113,7 +98,7 @@ fn take(rt: HostRuntime, left: usize, form: Form) {
     }
     let mut word = io::buffer();
     let n = argument(rt, left, &mut word);
-    if same(&word[..n], b"--summary") {
+    if &word[..n] == b"--summary".as_slice() {
         take(rt, left - 1, Form::Summary);
         return;
     }
@@ -121,19 +106,18 @@ fn take(rt: HostRuntime, left: usize, form: Form) {
         saying::usage();
         return;
     }
-    let opened = files::open(&rt, &word[..n]);
-    let Opened::File(file) = opened else {
+    let Some(file) = files::open(&rt, &word[..n]) else {
         saying::unreadable();
         return;
     };
     let mut window = [0u8; WINDOW];
-    let verdict = tape_files::check(&file, &mut window);
-    let Verdict::Accepted(setup) = verdict else {
-        printing::not_accepted(verdict);
-        return;
-    };
-    let shown = progress::begin(&rt.stdout(), &rt.stderr());
-    lend_words(&file, setup, form, shown, &mut window);
+    match tape_files::check(&file, &mut window) {
+        Ok(setup) => {
+            let shown = progress::begin(&rt.stdout(), &rt.stderr());
+            lend_words(&file, setup, form, shown, &mut window);
+        }
+        Err(why) => printing::not_accepted(why),
+    }
 }
 
 fn main(rt: HostRuntime) {

@@ -2,14 +2,14 @@
 ghost use Rattle.std.specs.Prelude.{◌≤◌, length};
 
 use crate::saying;
-use files::File;
+use files::{Failure, File};
 use playback_files::Ending;
 use playback_opening::Beginning;
 use playback_parts::Form;
 use playback_windows::refuse_in;
 use progress::Progress;
 use tape::Setup;
-use tape_files::Verdict;
+use tape_files::NotAccepted;
 
 // The line of a refusal, so many bytes.
 fn refused(text: &[u8], n: usize)
@@ -32,17 +32,23 @@ fn refuse(place: usize, text: &mut [u8]) {
     }
 }
 
+// A part of the file is not there.
+fn failed(failure: Failure) {
+    match failure {
+        Failure::Shorter => saying::shorter(),
+        Failure::Unreadable => saying::unreadable(),
+    }
+}
+
 // What is printed of a tape that is not accepted.
-pub fn not_accepted(verdict: Verdict) {
-    match verdict {
-        Verdict::Bad(place) => {
+pub fn not_accepted(why: NotAccepted) {
+    match why {
+        NotAccepted::Bad(place) => {
             let mut text = [0u8; 170];
             refuse(place, &mut text);
         }
-        Verdict::Shorter => saying::shorter(),
-        Verdict::Unreadable => saying::unreadable(),
-        Verdict::NoRoom => saying::unreadable(),
-        Verdict::Accepted(_) => saying::changed(),
+        NotAccepted::Failed(failure) => failed(failure),
+        NotAccepted::NoRoom => saying::unreadable(),
     }
 }
 
@@ -64,8 +70,7 @@ pub fn replay(
         Ending::Refused(n) => refused(text, n),
         Ending::NoRoom => saying::unwritten(),
         Ending::Unwritten => saying::unwritten(),
-        Ending::Unreadable => saying::unreadable(),
-        Ending::Shorter => saying::shorter(),
+        Ending::Failed(failure) => failed(failure),
         Ending::Changed => saying::changed(),
     }
 }

@@ -2,6 +2,7 @@
 use Prim.Native.Nat.{ℕ, ◌+◌, ◌-◌, ◌≤◌, ◌<◌, min}
 use mathlib.Core.Path.{◌≡◌, refl, sym, ◌∙◌, ap}
 use mathlib.Core.Bool.{Bool, true, false, true≢false}
+use Rattle.std.proofs.Common.{Option, Some, None}
 use mathlib.Core.List.{List, [], ◌++◌, append_assoc, append-nil}
 use native.Mathlib.Omega.{arith}
 use lib.ListN.{length, take, drop}
@@ -249,25 +250,25 @@ module _ (form : Form) (tape : List ℕ) (w : Playback) (fs : List Float) (us : 
     pub samples_written : w.doing ≡ Doing.Samples from end → end ≤ length lent → PartPut lent from end text text' p
         → WrittenAs form tape w fs us lent text (behind_part_law p (samples_left p end)) fs us lent text'
     unfolding remaining
-    samples_written doing inside put = go p.ended refl
+    samples_written doing inside put = go p.next refl
       where
-        go : (e : Bool) → p.ended ≡ e → WrittenAs form tape w fs us lent text (behind_part_law p (samples_left p end)) fs us lent text'
-        go true ended =
+        go : (e : Option ℕ) → p.next ≡ e → WrittenAs form tape w fs us lent text (behind_part_law p (samples_left p end)) fs us lent text'
+        go None ended =
             printed_written put.text (samples_left p end) (behind_part_law p (samples_left p end)) (record { put = put.put; behind = refl }) (prints_only (Doing.Samples from end) refl doing) (rw doing) (λ cs. rw (doing, put.line, ended) (append_assoc put.text [] (printed_from form (lent_of fs us) cs (state_of w.receiver fs us)))) (rw ended) (rw (doing, ended) (omega arith))
-        go false ended =
-            printed_written put.text (samples_left p end) (behind_part_law p (samples_left p end)) (record { put = put.put; behind = refl }) (prints_only (Doing.Samples from end) refl doing) (rw doing) (λ cs. rw (doing, put.line, ended) (append_assoc put.text (part_ended p.from end lent) (printed_from form (lent_of fs us) cs (state_of w.receiver fs us))))
-            (rw ended (both_and (le-leb p.from end put.inside) (le-leb end (length lent) inside)))
-            (rw (doing, ended) (omega (arith, put.inside, put.further ended)))
+        go (Some next) ended =
+            printed_written put.text (samples_left p end) (behind_part_law p (samples_left p end)) (record { put = put.put; behind = refl }) (prints_only (Doing.Samples from end) refl doing) (rw doing) (λ cs. rw (doing, put.line, ended) (append_assoc put.text (part_ended next end lent) (printed_from form (lent_of fs us) cs (state_of w.receiver fs us))))
+            (rw ended (both_and (le-leb next end (rw ended at put.inside)) (le-leb end (length lent) inside)))
+            (rw (doing, ended) (omega (arith, rw ended at put.inside, rw ended at put.further)))
 
     pub values_written : w.doing ≡ Doing.Values from end → end ≤ length fs → PartPut fs from end text text' p
         → WrittenAs form tape w fs us lent text (behind_part_law p (values_left p end)) fs us lent text'
     unfolding remaining
-    values_written doing inside put = go p.ended refl
+    values_written doing inside put = go p.next refl
       where
-        go : (e : Bool) → p.ended ≡ e → WrittenAs form tape w fs us lent text (behind_part_law p (values_left p end)) fs us lent text'
-        go true ended =
+        go : (e : Option ℕ) → p.next ≡ e → WrittenAs form tape w fs us lent text (behind_part_law p (values_left p end)) fs us lent text'
+        go None ended =
             printed_written put.text (values_left p end) (behind_part_law p (values_left p end)) (record { put = put.put; behind = refl }) (prints_only (Doing.Values from end) refl doing) (rw doing) (λ cs. rw (doing, put.line, ended) (append_assoc put.text [] (printed_from form (lent_of fs us) cs (state_of w.receiver fs us)))) (rw ended) (rw (doing, ended) (omega arith))
-        go false ended =
-            printed_written put.text (values_left p end) (behind_part_law p (values_left p end)) (record { put = put.put; behind = refl }) (prints_only (Doing.Values from end) refl doing) (rw doing) (λ cs. rw (doing, put.line, ended) (append_assoc put.text (part_ended p.from end fs) (printed_from form (lent_of fs us) cs (state_of w.receiver fs us))))
-            (rw ended (both_and (le-leb p.from end put.inside) (le-leb end (length fs) inside)))
-            (rw (doing, ended) (omega (arith, put.inside, put.further ended)))
+        go (Some next) ended =
+            printed_written put.text (values_left p end) (behind_part_law p (values_left p end)) (record { put = put.put; behind = refl }) (prints_only (Doing.Values from end) refl doing) (rw doing) (λ cs. rw (doing, put.line, ended) (append_assoc put.text (part_ended next end fs) (printed_from form (lent_of fs us) cs (state_of w.receiver fs us))))
+            (rw ended (both_and (le-leb next end (rw ended at put.inside)) (le-leb end (length fs) inside)))
+            (rw (doing, ended) (omega (arith, rw ended at put.inside, rw ended at put.further)))

@@ -1,13 +1,12 @@
 -- What is still to be printed of a replay in either form, and what a step promises. Assumes nothing.
-use Rattle.std.specs.Prelude.{ℕ, ◌+◌, ◌-◌, ◌*◌, ◌≤◌, ◌<◌, min, ◌≡◌, Bool, true, false, ◌&&◌, cond, List, [], ◌∷◌, ◌++◌, map, length, drop, leb, Float}
+use Rattle.std.specs.Prelude.{ℕ, ◌+◌, ◌-◌, ◌*◌, ◌≤◌, ◌<◌, min, ◌≡◌, Bool, true, false, ◌&&◌, cond, List, [], ◌∷◌, ◌++◌, map, length, drop, leb, Float, Option, Some, None}
 use Rattle.model.specs.Framing.{B}
 use Rattle.model.specs.Receiver.{Lent, Call, State, Answer}
 use Rattle.model.specs.Tape as Tape
 use Rattle.model.specs.Tape.{words_of, call_at, found_call, found_bad}
 use Rattle.model.specs.Replay.{decimal, line, channel_line, incoming_line, clock_line}
 use Rattle.calls.specs.Views.{model_side, sizes_of}
-use Rattle.tape.specs.declared.Found.{Found}
-use Rattle.tape.specs.Answers.{IsFound}
+use Rattle.tape.specs.Answers.{Found, IsFound}
 use Rattle.receiver_state.specs.declared.Receiver.{Receiver}
 use Rattle.receiver_state.specs.declared.Answer as Code
 use Rattle.receiver_state.specs.declared.Answer.TheVariants as Codes
@@ -213,15 +212,15 @@ abbrev pub clock_of : Report → List ℕ
 clock_of r = line 67 (clock_words r)
 
 -- what comes after a part of a line's values
-abbrev pub behind_part : Bool → Doing → Doing
-behind_part true again = Doing.Call
-behind_part false again = again
+abbrev pub behind_part : Option ℕ → (ℕ → Doing) → Doing
+behind_part None again = Doing.Call
+behind_part (Some from) again = again from
 
 abbrev pub samples_left : Part → ℕ → Doing
-samples_left part end = behind_part part.ended (Doing.Samples part.from end)
+samples_left part end = behind_part part.next (λ from. Doing.Samples from end)
 
 abbrev pub values_left : Part → ℕ → Doing
-values_left part end = behind_part part.ended (Doing.Values part.from end)
+values_left part end = behind_part part.next (λ from. Doing.Values from end)
 
 -- a call was found at the place, and there is room for the beginning of its line
 pub record MakeReady (tape : List ℕ) (w : Playback) (found : Found) (facts : Facts) (text : List ℕ) : Type 0 where

@@ -1,5 +1,5 @@
 // A step of a replay.
-ghost use Rattle.std.specs.Prelude.{◌&&◌, ◌≡◌, ◌≤◌, min, length, leb};
+ghost use Rattle.std.specs.Prelude.{◌&&◌, ◌≡◌, ◌≤◌, length, leb};
 ghost use Rattle.model.specs.Framing as Framing;
 ghost use Rattle.model.specs.Replay.{channel_line};
 ghost use Rattle.receiver_state.specs.Report.{counters_in, report_of};
@@ -22,12 +22,6 @@ use tape::Found;
 
 // ---- a call
 
-fn least(a: usize, b: usize) -> usize
-    ensures { result ≡ min a b }
-{
-    if a < b { a } else { b }
-}
-
 // What is printed behind the beginning of a call's line: values inside of what is lent.
 fn doing_after(left: Left, facts: Facts, fs: &[f32]) -> Doing
     ensures { result ≡ doing_after left facts (length fs.now) }
@@ -39,8 +33,8 @@ fn doing_after(left: Left, facts: Facts, fs: &[f32]) -> Doing
             end: facts.samples,
         },
         Left::Values(n) => {
-            let from = least(facts.row, fs.len());
-            let count = least(n, fs.len() - from);
+            let from = facts.row.min(fs.len());
+            let count = n.min(fs.len() - from);
             Doing::Values {
                 from,
                 end: from + count,
@@ -85,8 +79,8 @@ fn row_length(answer: Answer, facts: Facts, fs: &[f32]) -> usize
         } => 0,
         Answer::NoRow => 0,
         Answer::Row(n) => {
-            let from = least(facts.row, fs.len());
-            least(n, fs.len() - from)
+            let from = facts.row.min(fs.len());
+            n.min(fs.len() - from)
         }
     }
 }
@@ -203,42 +197,27 @@ fn line_c(w: Playback, text: &mut [u8]) -> Wrote
 fn held(values: &[f32], from: usize, end: usize) -> bool
     ensures { result ≡ (leb from end && leb end (length values.now)) }
 {
-    if end < from {
-        return false;
-    }
-    end <= values.len()
+    from <= end && end <= values.len()
 }
 
 fn samples_left(w: Playback, part: Part, end: usize) -> Wrote
     ensures { result ≡ record { playback = record { receiver = w.receiver; place = w.place; doing = samples_left part end }; bytes = part.bytes } }
 {
-    if part.ended {
-        return on(w, Doing::Call, part.bytes);
-    }
-    on(
-        w,
-        Doing::Samples {
-            from: part.from,
-            end,
-        },
-        part.bytes,
-    )
+    let doing = match part.next {
+        Some(from) => Doing::Samples { from, end },
+        None => Doing::Call,
+    };
+    on(w, doing, part.bytes)
 }
 
 fn values_left(w: Playback, part: Part, end: usize) -> Wrote
     ensures { result ≡ record { playback = record { receiver = w.receiver; place = w.place; doing = values_left part end }; bytes = part.bytes } }
 {
-    if part.ended {
-        return on(w, Doing::Call, part.bytes);
-    }
-    on(
-        w,
-        Doing::Values {
-            from: part.from,
-            end,
-        },
-        part.bytes,
-    )
+    let doing = match part.next {
+        Some(from) => Doing::Values { from, end },
+        None => Doing::Call,
+    };
+    on(w, doing, part.bytes)
 }
 
 // ---- a step

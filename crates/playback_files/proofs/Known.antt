@@ -55,6 +55,5 @@ replayed form file setup room fs us samples text Ending.Over fs' us' samples' te
 replayed form file setup room fs us samples text (Ending.Refused n) fs' us' samples' text' first words text_then begun steps ends = absurd ends
 replayed form file setup room fs us samples text Ending.NoRoom fs' us' samples' text' first words text_then begun steps ends = absurd ends
 replayed form file setup room fs us samples text Ending.Unwritten fs' us' samples' text' first words text_then begun steps ends = record { first = first; words = words; text_then = text_then; begun = begun; steps = steps }
-replayed form file setup room fs us samples text Ending.Unreadable fs' us' samples' text' first words text_then begun steps ends = record { first = first; words = words; text_then = text_then; begun = begun; steps = steps }
-replayed form file setup room fs us samples text Ending.Shorter fs' us' samples' text' first words text_then begun steps ends = record { first = first; words = words; text_then = text_then; begun = begun; steps = steps }
+replayed form file setup room fs us samples text (Ending.Failed failure) fs' us' samples' text' first words text_then begun steps ends = record { first = first; words = words; text_then = text_then; begun = begun; steps = steps }
 replayed form file setup room fs us samples text Ending.Changed fs' us' samples' text' first words text_then begun steps ends = record { first = first; words = words; text_then = text_then; begun = begun; steps = steps }

@@ -81,8 +81,7 @@ ends_begun Ending.Over d over = tt
 ends_begun (Ending.Refused n) d over = over
 ends_begun Ending.NoRoom d over = over
 ends_begun Ending.Unwritten d over = tt
-ends_begun Ending.Unreadable d over = tt
-ends_begun Ending.Shorter d over = tt
+ends_begun (Ending.Failed failure) d over = tt
 ends_begun Ending.Changed d over = tt
 
 pub went_begun : (p : Playing) (t : Through) (r : Went) → SameReplay p t r → WentBegun r

@@ -68,8 +68,7 @@ OverWhereDone Ending.Over doing = doing ≡ Doing.Done
 OverWhereDone (Ending.Refused n) doing = ⊥
 OverWhereDone Ending.NoRoom doing = ⊥
 OverWhereDone Ending.Unwritten doing = Unit {0}
-OverWhereDone Ending.Unreadable doing = Unit {0}
-OverWhereDone Ending.Shorter doing = Unit {0}
+OverWhereDone (Ending.Failed failure) doing = Unit {0}
 OverWhereDone Ending.Changed doing = Unit {0}
 
 -- a replay that goes on is the same replay of the tape, with its place counted from where the next window begins
@@ -83,8 +82,7 @@ EndsBegun Ending.Over = Unit {0}
 EndsBegun (Ending.Refused n) = ⊥
 EndsBegun Ending.NoRoom = ⊥
 EndsBegun Ending.Unwritten = Unit {0}
-EndsBegun Ending.Unreadable = Unit {0}
-EndsBegun Ending.Shorter = Unit {0}
+EndsBegun (Ending.Failed failure) = Unit {0}
 EndsBegun Ending.Changed = Unit {0}
 
 abbrev pub WentBegun : Went → Type 0
@@ -135,6 +133,5 @@ Replayed form file setup room fs us samples text (Ending.Refused n) fs' us' samp
 Replayed form file setup room fs us samples text Ending.NoRoom fs' us' samples' text' =
     ((room < 4 * longest_call) ⊎ (length text < 170)) × Kept fs us samples fs' us' samples' × (text' ≡ text)
 Replayed form file setup room fs us samples text Ending.Unwritten fs' us' samples' text' = Played form file setup room fs us samples text Ending.Unwritten fs' us' samples'
-Replayed form file setup room fs us samples text Ending.Unreadable fs' us' samples' text' = Played form file setup room fs us samples text Ending.Unreadable fs' us' samples'
-Replayed form file setup room fs us samples text Ending.Shorter fs' us' samples' text' = Played form file setup room fs us samples text Ending.Shorter fs' us' samples'
+Replayed form file setup room fs us samples text (Ending.Failed failure) fs' us' samples' text' = Played form file setup room fs us samples text (Ending.Failed failure) fs' us' samples'
 Replayed form file setup room fs us samples text Ending.Changed fs' us' samples' text' = Played form file setup room fs us samples text Ending.Changed fs' us' samples'

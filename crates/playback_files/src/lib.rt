@@ -8,7 +8,7 @@ ghost use Rattle.std.specs.Prelude.{false, ◌≡◌, ℕ, ◌+◌, ◌*◌, ◌
 ghost use Rattle.playback_pieces.specs.Gathered.{moment};
 ghost use Rattle.playback_files.specs.Windows.{ReachedBy, ThroughIn, FewerSteps, StepsOn, Gone, OverWhereDone, SameReplay, StepsTo, NextStepsTo, AllStepsTo, EndsBegun, WentBegun, Replayed};
 
-use files::{File, Part, read_part};
+use files::{Failure, File, read_part};
 use playback_opening::Beginning;
 use playback_parts::{Doing, Form, Playback};
 use playback_pieces::Stop;
@@ -39,7 +39,7 @@ pub struct Through {
     pub reached: Reached,
 }
 
-// What came of a replay.
+// What came of a replay. No Result: of seven ends the good one is one, and carries nothing.
 #[derive(Clone, Copy)]
 pub enum Ending {
     // All of it was written.
@@ -50,10 +50,8 @@ pub enum Ending {
     NoRoom,
     // Standard output could not be written.
     Unwritten,
-    // The file could not be read.
-    Unreadable,
-    // The file has become shorter.
-    Shorter,
+    // A part of the file is not there.
+    Failed(Failure),
     // The file's tape is not the one whose setup this is and that was checked.
     Changed,
 }
@@ -243,15 +241,13 @@ fn next_window(
     requires { (4 * p.base ≤ file.now.bytes) × (p.playback.place ≤ 13) × (65540 ≤ length window.old) }
     ensures { Gone file.now.bytes p.base result × NextStepsTo form file.now (length window.old) p.base (moment p.playback fs.old us.old samples.old) result fs.new us.new samples.new × WentBegun result }
 {
-    let base = p.base;
     let all = file.bytes;
-    let part = read_part(file, 4 * base, window);
-    match part {
-        Part::Unreadable => Went::Ended(Ending::Unreadable),
-        Part::Shorter => Went::Ended(Ending::Shorter),
-        Part::Bytes { count, last } => {
-            by_window(p, all, &window[..count], last, fs, us, samples, text, form)
+    match read_part(file, 4 * p.base, window) {
+        Ok(part) => {
+            let read = &window[..part.count];
+            by_window(p, all, read, part.last, fs, us, samples, text, form)
         }
+        Err(failure) => Went::Ended(Ending::Failed(failure)),
     }
 }
 

@@ -11,8 +11,9 @@ use Rattle.model.specs.Replay.{bad_tape_line, replay_over, replay_within}
 use Rattle.model.proofs.BoolLaws.{clash}
 use Rattle.model.proofs.TapeWalk.{walk}
 use Rattle.tape.specs.declared.Setup.{Setup}
-use Rattle.tape.specs.declared.SetupRead.TheVariants as setupRead
-use Rattle.tape.specs.Answers.{numbers_of, setup_answer}
+use Rattle.std.specs.Prelude.{Ok, Err}
+use Rattle.tape.specs.declared.BadWord.{BadWord}
+use Rattle.tape.specs.Answers.{bad_at, numbers_of, setup_answer}
 use Rattle.calls.specs.Views.{model_setup}
 use Rattle.receiver_state.specs.View.{lent_of}
 use Rattle.playback_parts.specs.declared.Form.{Form}
@@ -24,11 +25,11 @@ use Rattle.playback_opening.specs.Beginnings.{SetupBegun, BegunAs, BegunTo}
 
 module _ (form : Form) (tape : List ℕ) (fs : List Float) (us text : List ℕ) where
   -- a refused tape
-  bad_read : (r : TapeRead) (place : ℕ) → setupRead.Bad place ≡ setup_answer r → r ≡ bad_tape place
+  bad_read : (r : TapeRead) (place : ℕ) → Err (bad_at place) ≡ setup_answer r → r ≡ bad_tape place
   bad_read (read_tape t) place is = clash (cc)
-  bad_read (bad_tape at) place is = cc
+  bad_read (bad_tape at) place is = let same : bad_at at ≡ bad_at place = cc in ap (λ (b : BadWord). bad_tape b.place) same
 
-  pub bad_begun : (place n : ℕ) (text' : List ℕ) → setupRead.Bad place ≡ setup_answer (read tape) → TextPut (bad_tape_line place) text text' n
+  pub bad_begun : (place n : ℕ) (text' : List ℕ) → Err (bad_at place) ≡ setup_answer (read tape) → TextPut (bad_tape_line place) text text' n
       → BegunAs form (printed_over form (lent_of fs us) tape) tape fs us text (Beginning.Refused n) us text'
   bad_begun place n text' is put = (rw (printed_of_bad_tape form (lent_of fs us) tape place (bad_read (read tape) place is)) put, refl)
 
@@ -38,13 +39,13 @@ module _ (form : Form) (tape : List ℕ) (fs : List Float) (us text : List ℕ) 
     is : read tape ≡ read_tape whole
     setup : model_setup x.sizes x.a x.b ≡ whole.setup
 
-  front_found : (r : TapeRead) (x : Setup) → read tape ≡ r → setupRead.Found x ≡ setup_answer r → FrontFound x
+  front_found : (r : TapeRead) (x : Setup) → read tape ≡ r → Ok x ≡ setup_answer r → FrontFound x
   front_found (read_tape t) x same is =
       let numbers : x ≡ numbers_of t.setup = cc in
       record { whole = t; is = same; setup = ap (λ (y : Setup). model_setup y.sizes y.a y.b) numbers }
   front_found (bad_tape place) x same is = clash (cc)
 
-  pub setup_begun : (x : Setup) (v : Beginning) (us' text' : List ℕ) → setupRead.Found x ≡ setup_answer (read tape)
+  pub setup_begun : (x : Setup) (v : Beginning) (us' text' : List ℕ) → Ok x ≡ setup_answer (read tape)
       → SetupBegun (model_setup x.sizes x.a x.b) fs us text v us' text' → BegunAs form (printed_over form (lent_of fs us) tape) tape fs us text v us' text'
   setup_begun x Beginning.NoRoom us' text' is begun = absurd begun
   setup_begun x (Beginning.Refused n) us' text' is begun =

@@ -12,8 +12,7 @@ ghost use Rattle.playback_opening.specs.Beginnings.{SetupBegun, BegunTo};
 
 use playback_parts::{Doing, PIECE, Playback};
 use receiver_setup::Opening;
-use replaying::printing::length_put;
-use tape::{Setup, SetupRead};
+use tape::Setup;
 
 // How a replay begins.
 #[derive(Clone, Copy)]
@@ -30,8 +29,7 @@ fn put_refused(text: &mut [u8], n: u32) -> usize
     requires { 170 ≤ length text.old }
     ensures { TextPut (refused_line n) text.old text.new result }
 {
-    let line = lines::put_line(text, b'X', &[n as u64]);
-    length_put(line)
+    lines::put_line(text, b'X', &[n as u64]).unwrap()
 }
 
 // The line of a refused tape.
@@ -39,8 +37,7 @@ pub fn put_bad_tape(text: &mut [u8], place: usize) -> usize
     requires { 170 ≤ length text.old }
     ensures { TextPut (bad_tape_line place) text.old text.new result }
 {
-    let line = lines::put_line(text, b'X', &[11, place as u64]);
-    length_put(line)
+    lines::put_line(text, b'X', &[11, place as u64]).unwrap()
 }
 
 // Setup by what a tape says.
@@ -69,9 +66,8 @@ pub fn begin(fs: &[f32], us: &mut [u32], tape: &[u8], text: &mut [u8]) -> Beginn
     if text.len() < PIECE {
         return Beginning::NoRoom;
     }
-    let front = tape::reader::setup_of(tape);
-    match front {
-        SetupRead::Bad(place) => Beginning::Refused(put_bad_tape(text, place)),
-        SetupRead::Found(setup) => set_up(setup, fs, us, text),
+    match tape::reader::setup_of(tape) {
+        Ok(setup) => set_up(setup, fs, us, text),
+        Err(bad) => Beginning::Refused(put_bad_tape(text, bad.place)),
     }
 }

@@ -1,7 +1,7 @@
 -- A part of a line's values, or the line's end. Assumes nothing.
 use Prim.Native.Nat.{ℕ, zero, suc, ◌+◌, ◌-◌, ◌*◌, ◌≤◌, ◌<◌}
 use mathlib.Core.Path.{◌≡◌, refl, sym, ◌∙◌, ap}
-use mathlib.Core.Bool.{true, false}
+use Rattle.std.proofs.Common.{Some, None}
 use mathlib.Core.List.{List, [], ◌∷◌, ◌++◌, map, append_assoc}
 use native.Mathlib.Omega.{arith}
 use lib.ListN.{length, take, drop, set, length-take, length-drop}
@@ -9,7 +9,6 @@ use lib.Seq.{drop-drop}
 use lib.Ieee.{Float}
 use Rattle.model.specs.Bytes.{part}
 use Rattle.model.specs.Replay.{hex_bits}
-use Rattle.model.proofs.BoolLaws.{clash}
 use Rattle.text.proofs.WrittenLaws.{byte_placed}
 use Rattle.lines.specs.Lines.{spaced, ValuesWritten}
 use Rattle.lines.proofs.Pieces.{values_go_on}
@@ -17,7 +16,7 @@ use Rattle.replaying.specs.Printing.{values_ended}
 use Rattle.playback_parts.specs.Parts.{part_ended, PartPut}
 
 pub line_ended : (values : List Float) (from end : ℕ) (entry : List ℕ) → from ≡ end → 0 < length entry
-    → PartPut values from end entry (set entry 0 10) (record { from = from; ended = true; bytes = 1 })
+    → PartPut values from end entry (set entry 0 10) (record { bytes = 1; next = None })
 unfolding spaced
 line_ended values from end entry same room =
     let none_left : end - from ≡ 0 = omega (arith, same) in
@@ -25,8 +24,8 @@ line_ended values from end entry same room =
       text = 10 ∷ [];
       put = record { length_is = refl; target = byte_placed 0 10 entry room };
       line = rw none_left;
-      inside = omega (arith, same);
-      further = λ no. clash (cc);
+      inside = tt;
+      further = tt;
     }
 
 drop_take : (n k : ℕ) (xs : List Float) → drop n (take k xs) ≡ take (k - n) (drop n xs)
@@ -55,12 +54,12 @@ module _ (values : List Float) (from end : ℕ) (entry exit : List ℕ) (n : ℕ
   line_is : values_ended here ≡ spaced (map hex_bits (take n here)) ++ part_ended (from + n) end values
   line_is = ap (λ (xs : List ℕ). xs ++ (10 ∷ [])) (values_go_on n here) ∙ append_assoc (spaced (map hex_bits (take n here))) (spaced (map hex_bits (drop n here))) (10 ∷ []) ∙ rw behind
 
-  pub some_put : PartPut values from end entry exit (record { from = from + n; ended = false; bytes = 9 * n })
+  pub some_put : PartPut values from end entry exit (record { bytes = 9 * n; next = Some (from + n) })
   some_put =
       record {
         text = spaced (map hex_bits (take n here));
         put = record { length_is = sym written.bytes; target = written.target };
         line = line_is;
         inside = omega (arith, written.most, here_length);
-        further = λ no. omega (arith, written.most, here_length);
+        further = omega (arith, written.most, here_length);
       }

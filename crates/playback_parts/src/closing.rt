@@ -7,17 +7,15 @@ ghost use Rattle.playback_parts.specs.Parts.{TextPut};
 
 use calls::Side;
 use receiver_state::report::{Report, SoundReport};
-use replaying::printing::length_put;
 
 // A channel's line.
 pub fn put_sound(text: &mut [u8], side: Side, s: SoundReport) -> usize
     requires { 170 ≤ length text.old }
     ensures { TextPut (channel_line (model_side side) (counters_in s)) text.old text.new result }
 {
-    let letter = lines::side_letter(side);
     let line = lines::put_line(
         text,
-        letter,
+        lines::side_letter(side),
         &[
             s.received,
             s.inserted,
@@ -29,7 +27,7 @@ pub fn put_sound(text: &mut [u8], side: Side, s: SoundReport) -> usize
             s.filled,
         ],
     );
-    length_put(line)
+    line.unwrap()
 }
 
 // The line of the streams' counts.
@@ -37,22 +35,20 @@ pub fn put_incoming(text: &mut [u8], r: Report) -> usize
     requires { 170 ≤ length text.old }
     ensures { TextPut (line 73 (map decimal (incoming_numbers r))) text.old text.new result }
 {
-    let audio = r.audio;
-    let waterfall = r.waterfall;
     let line = lines::put_line(
         text,
         b'I',
         &[
             r.incoming,
-            audio.packets,
-            waterfall.packets,
-            audio.dropped,
-            waterfall.dropped,
-            audio.late,
-            waterfall.late,
+            r.audio.packets,
+            r.waterfall.packets,
+            r.audio.dropped,
+            r.waterfall.dropped,
+            r.audio.late,
+            r.waterfall.late,
         ],
     );
-    length_put(line)
+    line.unwrap()
 }
 
 // The clock's line.
@@ -60,8 +56,5 @@ pub fn put_times(text: &mut [u8], r: Report) -> usize
     requires { 170 ≤ length text.old }
     ensures { TextPut (line 67 (clock_words r)) text.old text.new result }
 {
-    let timing = r.timing;
-    let one_way = r.one_way;
-    let line = lines::put_clock(text, timing, one_way);
-    length_put(line)
+    lines::put_clock(text, r.timing, r.one_way).unwrap()
 }

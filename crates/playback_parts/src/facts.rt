@@ -2,15 +2,15 @@
 ghost use Rattle.std.specs.Prelude.{◌≡◌};
 ghost use Rattle.model.specs.Framing.{stream_in};
 ghost use Rattle.calls.specs.Views.{sizes_of};
-ghost use Rattle.tape.specs.Answers.{Inside, model_found};
+ghost use Rattle.tape.specs.Answers.{CallInside, Inside, model_call, model_found};
 ghost use Rattle.receiver_datagrams.specs.Promises.{model_stream};
 ghost use Rattle.calls.specs.declared.Side.TheVariants as Side;
-ghost use Rattle.playback_parts.specs.Facts.{place_at, StreamFound, FactsOf};
+ghost use Rattle.playback_parts.specs.Facts.{place_at, StreamFound, CallFacts, FactsOf};
 
 use calls::{Side, Sizes};
 use receiver_datagrams::{Stream, stream_of};
 use receiver_state::readings::{Place, row_place};
-use tape::Found;
+use tape::{Call, Found, Placed};
 
 // What stands at a tape's place.
 #[derive(Clone, Copy)]
@@ -87,72 +87,71 @@ fn of_clock(kind: Kind, next: usize) -> Facts
     }
 }
 
-pub fn facts_of(z: Sizes, tape: &[u8], found: Found) -> Facts
-    requires { Inside tape.now found }
-    ensures { FactsOf (sizes_of z) (model_found tape.now found) result }
+// Of a call at a place.
+#[tactic(auto, unfolding(model::specs::Replay::side_of))]
+fn call_facts(z: Sizes, tape: &[u8], placed: Placed) -> Facts
+    requires { CallInside tape.now placed.call }
+    ensures { CallFacts (sizes_of z) (model_call tape.now placed.call) placed.next result }
 {
-    match found {
-        Found::Datagram { at, len, next } => {
+    let next = placed.next;
+    match placed.call {
+        Call::Datagram { at, len } => {
             let stream = stream_in(&tape[at..at + len]);
             let known = stream_facts(z, stream);
-            let side = known.side;
-            let row = known.row;
             Facts {
                 kind: Kind::Call,
-                side,
+                side: known.side,
                 next,
                 samples: 0,
-                row,
+                row: known.row,
             }
         }
-        Found::Play {
-            side,
-            samples,
-            next,
-        } => Facts {
+        Call::Play { side, samples } => Facts {
             kind: Kind::Call,
             side,
             next,
             samples: samples as usize,
             row: 0,
         },
-        Found::Reset { side, next } => Facts {
+        Call::Reset { side } => Facts {
             kind: Kind::Call,
             side,
             next,
             samples: 0,
             row: 0,
         },
-        Found::Set {
-            side,
-            settings: _,
-            next,
-        } => Facts {
+        Call::Set { side, settings: _ } => Facts {
             kind: Kind::Call,
             side,
             next,
             samples: 0,
             row: 0,
         },
-        Found::Probe {
+        Call::Probe {
             t1: _,
             t2: _,
             t3: _,
             t4: _,
-            next,
         } => of_clock(Kind::Call, next),
-        Found::OneWay {
+        Call::OneWay {
             receive: _,
             send: _,
-            next,
         } => of_clock(Kind::Call, next),
-        Found::Depth {
+        Call::Depth {
             samples: _,
             counts: _,
-            next,
         } => of_clock(Kind::Call, next),
-        Found::TransmitDepth { samples: _, next } => of_clock(Kind::Call, next),
-        Found::End => of_clock(Kind::End, 0),
-        Found::Bad(at) => of_clock(Kind::Bad(at), 0),
+        Call::TransmitDepth { samples: _ } => of_clock(Kind::Call, next),
+    }
+}
+
+pub fn facts_of(z: Sizes, tape: &[u8], found: Found) -> Facts
+    requires { Inside tape.now found }
+    ensures { FactsOf (sizes_of z) (model_found tape.now found) result }
+{
+    match found {
+        Ok(Some(placed)) => call_facts(z, tape, placed),
+        Ok(None) => of_clock(Kind::End, 0),
+        Err(bad) => of_clock(Kind::Bad(bad.place), 0),
     }
 }

@@ -2,12 +2,11 @@
 ghost use Rattle.std.specs.Prelude.{◌≤◌, length};
 ghost use Rattle.playback_parts.specs.Parts.{PartPut};
 
+// How many bytes were written, and where the values go on: nowhere where the line has ended.
 #[derive(Clone, Copy)]
 pub struct Part {
-    // Where the values go on, and whether the line has ended.
-    pub from: usize,
-    pub ended: bool,
     pub bytes: usize,
+    pub next: Option<usize>,
 }
 
 // Of the values from one place to another as many as fit, or the line's end where none is left.
@@ -18,15 +17,13 @@ pub fn put_part(text: &mut [u8], values: &[f32], from: usize, end: usize) -> Par
     if from == end {
         text[0] = b'\n';
         return Part {
-            from,
-            ended: true,
             bytes: 1,
+            next: None,
         };
     }
     let n = lines::put_values(text, &values[from..end]);
     Part {
-        from: from + n,
-        ended: false,
         bytes: 9 * n,
+        next: Some(from + n),
     }
 }

@@ -11,7 +11,7 @@ use lib.Ieee.{Float}
 use Rattle.model.specs.Tape.{read}
 use Rattle.model.proofs.BoolLaws.{clash}
 use Rattle.tape.specs.declared.Setup.{Setup}
-use Rattle.tape.specs.declared.SetupRead.TheVariants as setupRead
+use Rattle.std.specs.Prelude.{Ok}
 use Rattle.tape.specs.Answers.{setup_answer}
 use Rattle.tape_windows.specs.Windows.{longest_call, reaches}
 use Rattle.tape_windows.specs.Through.{WindowAt}
@@ -60,7 +60,7 @@ pub record Provided (form : Form) (whole : List ℕ) (m : Moment) : Type 0 where
   pub bytes' : List ℕ
   pub answered : SteppedBy form whole m at bytes answer after bytes'
 
-module _ (form : Form) (whole : List ℕ) (s : Setup) (front : setupRead.Found s ≡ setup_answer (read whole))
+module _ (form : Form) (whole : List ℕ) (s : Setup) (front : Ok s ≡ setup_answer (read whole))
     (fs : List Float) (us text us' text' : List ℕ) (w : Playback) (begun : BegunIn s fs us text (Beginning.Playing w) us' text') (samples : List Float) where
   abbrev first : Moment
   first = record { playback = w; floats = fs; words = us'; samples = samples }

@@ -12,9 +12,8 @@ use Rattle.model.specs.Replay.{replay_over}
 use Rattle.model.specs.Summary.{summary_over}
 use Rattle.model.proofs.BoolLaws.{clash}
 use Rattle.tape.specs.declared.Setup.{Setup}
-use Rattle.tape.specs.declared.SetupRead.TheVariants as setupRead
-use Rattle.tape.specs.declared.Checked.TheVariants as checked
-use Rattle.tape.specs.Answers.{setup_answer}
+use Rattle.std.specs.Prelude.{Ok, Err}
+use Rattle.tape.specs.Answers.{bad_at, setup_answer}
 use Rattle.tape.proofs.CheckLaws.{refused_setup}
 use Rattle.tape_windows.specs.Windows.{longest_call, reaches}
 use Rattle.tape_windows.specs.Through.{WindowAt, OpenedBy, Checks, first_place}
@@ -71,24 +70,24 @@ written_from_start base Step.Over is = is
 -- ---- a tape that is refused
 
 module _ (form : Form) (whole : List ℕ) (n : ℕ) (fs : List Float) (us text text' : List ℕ) (k : ℕ) (line : RefusedIn n text (Beginning.Refused k) text') where
-  refused_line_law : setupRead.Bad n ≡ setup_answer (read whole) → take k text' ≡ printed_over form (lent_of fs us) whole
+  refused_line_law : Err (bad_at n) ≡ setup_answer (read whole) → take k text' ≡ printed_over form (lent_of fs us) whole
   refused_line_law front = refused_replay form _ whole fs us text us text' k (bad_begun form whole fs us text n k text' front line)
 
   -- by its opening
-  pub windowed_opening_refused : OpenedBy whole (setupRead.Bad n) → take k text' ≡ printed_over form (lent_of fs us) whole
+  pub windowed_opening_refused : OpenedBy whole (Err (bad_at n)) → take k text' ≡ printed_over form (lent_of fs us) whole
   windowed_opening_refused opening = refused_line_law (windows_refuse_the_tape opening).setup.answers
 
   -- by its calls
-  pub windowed_calls_refused : {s : Setup} → OpenedBy whole (setupRead.Found s) → Checks whole first_place (checked.Bad n) → take k text' ≡ printed_over form (lent_of fs us) whole
-  windowed_calls_refused opening checks = refused_line_law (refused_setup whole n (checks_give_the_verdict opening checks))
+  pub windowed_calls_refused : {s : Setup} → OpenedBy whole (Ok s) → Checks whole first_place (Err (bad_at n)) → take k text' ≡ printed_over form (lent_of fs us) whole
+  windowed_calls_refused opening checks = refused_line_law (refused_setup whole (bad_at n) (checks_give_the_verdict opening checks))
 
 -- ---- a tape that is accepted
 
 -- its setup, by the windows
-pub setup_found : {whole : List ℕ} {s : Setup} → OpenedBy whole (setupRead.Found s) → Checks whole first_place checked.Accepted → setupRead.Found s ≡ setup_answer (read whole)
+pub setup_found : {whole : List ℕ} {s : Setup} → OpenedBy whole (Ok s) → Checks whole first_place (Ok tt) → Ok s ≡ setup_answer (read whole)
 setup_found opening checks = checks_give_the_setup opening checks refl
 
-module _ (form : Form) (whole : List ℕ) (s : Setup) (front : setupRead.Found s ≡ setup_answer (read whole)) where
+module _ (form : Form) (whole : List ℕ) (s : Setup) (front : Ok s ≡ setup_answer (read whole)) where
   module _ (fs : List Float) (us text us' text' : List ℕ) where
     abbrev out : List ℕ
     out = printed_over form (lent_of fs us) whole
@@ -128,7 +127,7 @@ module _ (form : Form) (whole : List ℕ) (s : Setup) (front : setupRead.Found s
 
 -- ---- the theorem
 
-module _ {whole : List ℕ} {s : Setup} (opening : OpenedBy whole (setupRead.Found s)) (checks : Checks whole first_place checked.Accepted)
+module _ {whole : List ℕ} {s : Setup} (opening : OpenedBy whole (Ok s)) (checks : Checks whole first_place (Ok tt))
     (fs : List Float) (us text us' text' : List ℕ) (w : Playback) (begun : BegunIn s fs us text (Beginning.Playing w) us' text') (samples : List Float)
     (printed : List ℕ) (last : Moment) (done : last.playback.doing ≡ Doing.Done) where
   pub windowed_replay : StepsBy Form.Full whole (record { playback = w; floats = fs; words = us'; samples = samples }) printed last → printed ≡ replay_over (lent_of fs us) whole

@@ -3,7 +3,7 @@
 
 use calls::Side;
 use std::io::IsTerminal;
-use tape::{Found, Step};
+use tape::{Call, Placed};
 
 // A file descriptor.
 const STDERR_FILENO: i32 = 2;
@@ -49,12 +49,14 @@ fn sum(count: u64, samples: u32) -> u64 {
 
 // With the call at a place of a window.
 fn heard(p: Progress, window: &[u8], place: usize) -> Progress {
-    let found = tape::reader::call_at(window, place);
-    let Found::Play {
-        side,
-        samples,
-        next: _,
-    } = found
+    let Ok(
+        Some(
+            Placed {
+                call: Call::Play { side, samples },
+                next: _,
+            },
+        ),
+    ) = tape::reader::call_at(window, place)
     else {
         return p;
     };
@@ -85,8 +87,7 @@ fn heard_all(p: Progress, window: &[u8], from: usize, to: usize) -> Progress {
     let mut at = from;
     while at < to {
         heard_so_far = heard(heard_so_far, window, at);
-        let step = tape::reader::step_at(window, at);
-        let Step::Next(next) = step else {
+        let Ok(Some(next)) = tape::reader::step_at(window, at) else {
             return heard_so_far;
         };
         if next <= at {

@@ -1,4 +1,5 @@
 -- What a row's chunk leaves, by its tests; and the front of a slice that values were placed in. Assumes nothing.
+use Rattle.std.proofs.Common.{Some, None}
 use mathlib.Core.Path.{◌≡◌, refl, sym, ◌∙◌, ap}
 use mathlib.Core.Bool.{false, ◌&&◌}
 use mathlib.Core.Option.{Option, none, some}
@@ -15,8 +16,6 @@ use Rattle.model.specs.Row.{Chunk, Row, floats_of, finite_prefix, complete, row_
 use Rattle.model.proofs.BoolLaws.{by_test, cond_keeps, second_of_both}
 use Rattle.model.proofs.ListLaws.{placed_length}
 use Rattle.reassembler.specs.declared.OpenRow.{OpenRow}
-use Rattle.reassembler.specs.declared.WaterfallReassembler.TheVariants as State
-use Rattle.reassembler.specs.declared.CompletedRow.TheVariants as Completed
 use Rattle.reassembler.specs.Requires.{RowKept, Storable}
 use Rattle.reassembler.specs.Rows.{chunk_of, open_of, counted_row, StoredPrefix, PushedAs}
 use Rattle.reassembler.proofs.FloatBytes.{length_floats_of}
@@ -74,7 +73,7 @@ module _ (r : OpenRow) (entry exit : List Float) (first : ℕ) (bytes : List ℕ
       ∙ placed_length first (finite_prefix (floats_of bytes)) entry (omega (arith, prefix_length (floats_of bytes), length_floats_of bytes, h.inside, h.fits))
 
   pub some_stored : (n ≡ length bytes / 4 → ⊥)
-      → PushedAs (store_chunk (chunk_of 0 0 first bytes) (open_of r entry)) (record { row = State.Open r; completed = Completed.NoRow }) exit
+      → PushedAs (store_chunk (chunk_of 0 0 first bytes) (open_of r entry)) (record { row = Some r; completed = None }) exit
   unfolding store_chunk store_some
   some_stored fewer =
       let differ : eqb (length (finite_prefix (floats_of bytes))) (length (floats_of bytes)) ≡ false =

@@ -1,6 +1,6 @@
 // Row reassembly, as rigflow-client/src/net/udp.rs has it: a waterfall row comes in chunks, each with the row's number,
 // its total of bins and its first bin. The row's state goes in by value and comes back; its values stand at the front of
-// a lent slice.
+// a lent slice. A row is there once a chunk was stored: a receiver begins with none.
 #![tactic(auto)]
 
 ghost use Rattle.std.specs.Prelude.{◌≡◌, [], ◌+◌, ◌/◌, ◌≤◌, ◌<◌, length};
@@ -10,10 +10,10 @@ ghost use Rattle.model.specs.Row.{floats_of, well_formed, open_row, row_for, sto
 ghost use Rattle.reassembler.specs.Requires.{Storable, PushFits};
 ghost use Rattle.reassembler.specs.Rows.{chunk_of, open_of, row_of, counted_row, StoredPrefix, PushedAs};
 
-use udp_framing::big_endian::read_u16;
+use udp_framing::big_endian::BigEndian;
 
 // A row that chunks are stored in. `filled` counts overlaps again.
-#[derive(Clone, Copy)]
+#[derive(Clone, Copy, PartialEq, Eq, Debug)]
 pub struct OpenRow {
     pub row_seq: u16,
     pub total_bins: usize,
@@ -21,45 +21,30 @@ pub struct OpenRow {
     pub done: bool,
 }
 
-#[derive(Clone, Copy)]
-pub enum WaterfallReassembler {
-    NoRow,
-    Open(OpenRow),
-}
-
-// The bins of the row that a chunk completed, if it did.
-#[derive(Clone, Copy)]
-pub enum CompletedRow {
-    NoRow,
-    Bins(usize),
-}
-
-// What a chunk leaves.
-#[derive(Clone, Copy)]
+// What a chunk leaves: the row, and the bins of the row that the chunk completed, if it did.
+#[derive(Clone, Copy, PartialEq, Eq, Debug)]
 pub struct Pushed {
-    pub row: WaterfallReassembler,
-    pub completed: CompletedRow,
+    pub row: Option<OpenRow>,
+    pub completed: Option<usize>,
 }
 
-impl WaterfallReassembler {
-    // Feeds one chunk, the bytes after the media header. A new row number or total opens a zeroed row; a done row ignores
-    // the chunk. At a value that is not finite the earlier ones remain and nothing is counted.
-    pub fn push_chunk(self, buf: &mut [f32], payload: &[u8]) -> Pushed
-        requires { PushFits (row_of self buf.old) (length buf.old) payload.now }
-        ensures { PushedAs (push_chunk payload.now (row_of self buf.old)) result buf.new }
-    {
-        if !is_well_formed(payload) {
-            return Pushed {
-                row: self,
-                completed: CompletedRow::NoRow,
-            };
-        }
-        let row_seq = read_u16(payload, 0);
-        let total_bins = read_u16(payload, 2) as usize;
-        let bin_offset = read_u16(payload, 4) as usize;
-        let open = row_for(self, buf, row_seq, total_bins);
-        store_chunk(open, buf, bin_offset, &payload[6..])
+// Feeds one chunk, the bytes after the media header. A new row number or total opens a zeroed row; a done row ignores the
+// chunk. At a value that is not finite the earlier ones remain and nothing is counted.
+pub fn push_chunk(row: Option<OpenRow>, buf: &mut [f32], payload: &[u8]) -> Pushed
+    requires { PushFits (row_of row buf.old) (length buf.old) payload.now }
+    ensures { PushedAs (push_chunk payload.now (row_of row buf.old)) result buf.new }
+{
+    if !is_well_formed(payload) {
+        return Pushed {
+            row,
+            completed: None,
+        };
     }
+    let row_seq = u16::read_from(payload, 0);
+    let total_bins = u16::read_from(payload, 2) as usize;
+    let bin_offset = u16::read_from(payload, 4) as usize;
+    let open = row_for(row, buf, row_seq, total_bins);
+    store_chunk(open, buf, bin_offset, &payload[6..])
 }
 
 // Not ignored: 6 bytes or more, a total that is not 0, whole values, and all of them inside the total.
@@ -69,8 +54,8 @@ fn is_well_formed(payload: &[u8]) -> bool
     if payload.len() < 6 {
         return false;
     }
-    let total_bins = read_u16(payload, 2) as usize;
-    let bin_offset = read_u16(payload, 4) as usize;
+    let total_bins = u16::read_from(payload, 2) as usize;
+    let bin_offset = u16::read_from(payload, 4) as usize;
     let left = payload.len() - 6;
     if total_bins == 0 {
         return false;
@@ -82,11 +67,11 @@ fn is_well_formed(payload: &[u8]) -> bool
 }
 
 // The row that a chunk goes to: the open one, or where the number or the total is another, a zeroed one.
-fn row_for(row: WaterfallReassembler, buf: &mut [f32], row_seq: u16, total_bins: usize) -> OpenRow
+fn row_for(row: Option<OpenRow>, buf: &mut [f32], row_seq: u16, total_bins: usize) -> OpenRow
     requires { total_bins ≤ length buf.old }
     ensures { open_of result buf.new ≡ row_for (chunk_of row_seq total_bins 0 []) (row_of row buf.old) }
 {
-    let WaterfallReassembler::Open(current) = row else {
+    let Some(current) = row else {
         return open_row(buf, row_seq, total_bins);
     };
     if current.row_seq != row_seq {
@@ -119,16 +104,16 @@ fn store_chunk(row: OpenRow, buf: &mut [f32], first: usize, bytes: &[u8]) -> Pus
 {
     if row.done {
         return Pushed {
-            row: WaterfallReassembler::Open(row),
-            completed: CompletedRow::NoRow,
+            row: Some(row),
+            completed: None,
         };
     }
     let n = bytes.len() / 4;
     let stored = store_finite(buf, first, bytes);
     if stored != n {
         return Pushed {
-            row: WaterfallReassembler::Open(row),
-            completed: CompletedRow::NoRow,
+            row: Some(row),
+            completed: None,
         };
     }
     count_filled(row, n)
@@ -143,23 +128,21 @@ fn count_filled(row: OpenRow, n: usize) -> Pushed
     let filled = row.filled + n;
     if filled < total_bins {
         return Pushed {
-            row: WaterfallReassembler::Open(OpenRow {
-                row_seq: row.row_seq,
-                total_bins,
+            row: Some(OpenRow {
                 filled,
                 done: false,
+                ..row
             }),
-            completed: CompletedRow::NoRow,
+            completed: None,
         };
     }
     Pushed {
-        row: WaterfallReassembler::Open(OpenRow {
-            row_seq: row.row_seq,
-            total_bins,
+        row: Some(OpenRow {
             filled,
             done: true,
+            ..row
         }),
-        completed: CompletedRow::Bins(total_bins),
+        completed: Some(total_bins),
     }
 }
 
@@ -169,14 +152,12 @@ fn store_finite(buf: &mut [f32], first: usize, bytes: &[u8]) -> usize
     ensures { StoredPrefix first (floats_of bytes.now) buf.old buf.new result }
 {
     let n = bytes.len() / 4;
-    let mut j = 0;
-    while j < n {
+    for j in 0..n {
         let v = read_f32(bytes, 4 * j);
         if !floats::is_finite(v) {
             return j;
         }
         buf[first + j] = v;
-        j += 1;
     }
     n
 }

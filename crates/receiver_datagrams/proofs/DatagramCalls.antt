@@ -1,4 +1,5 @@
 -- A datagram that questions 1 to 4 let through: its own questions, its header's counts, and its stream's work. Assumes nothing.
+use Rattle.std.proofs.Common.{None, Some}
 use mathlib.Core.Path.{◌≡◌, refl, sym, ◌∙◌, ap}
 use mathlib.Core.Bool.{true}
 use mathlib.Core.Option.{none, some}
@@ -32,7 +33,6 @@ use Rattle.channel.specs.View.{Inside}
 use Rattle.udp_framing.specs.declared.MediaHeader.{MediaHeader}
 use Rattle.udp_framing.specs.Views.{header_of}
 use Rattle.udp.specs.declared.StreamCounts.{StreamCounts}
-use Rattle.reassembler.specs.declared.CompletedRow.TheVariants as Completed
 use Rattle.udp.specs.Requires.{CountsFit}
 use Rattle.udp.specs.Views.{counts_of}
 use Rattle.reassembler.specs.Rows.{completed_of}
@@ -237,11 +237,11 @@ module _ (r : Receiver) (fs : List Float) (us bytes : List ℕ) (h : MediaHeader
         datagram_called (Framing.waterfall (model_side side)) stream r.audio k (rows_counted side k k-is) a accepts v.receiver fs' us'
         (taken.shown.taken ∙ rw is) taken.shown.areas
 
-    pub none_completed : v.completed ≡ Completed.NoRow → DatagramTaken r fs us bytes (record { receiver = counted v.receiver; answer = Answer.NoRow }) fs' us'
+    pub none_completed : v.completed ≡ None → DatagramTaken r fs us bytes (record { receiver = counted v.receiver; answer = Answer.NoRow }) fs' us'
     unfolding is_accepted
     none_completed is = record { called = seen_called (row none) refl (rw is); row_bins = tt }
 
-    pub one_completed : (n : ℕ) → v.completed ≡ Completed.Bins n → DatagramTaken r fs us bytes (record { receiver = counted v.receiver; answer = Answer.Row n }) fs' us'
+    pub one_completed : (n : ℕ) → v.completed ≡ Some n → DatagramTaken r fs us bytes (record { receiver = counted v.receiver; answer = Answer.Row n }) fs' us'
     unfolding is_accepted
     one_completed n is =
         record {

@@ -2,7 +2,7 @@
 // It asks nothing of its caller: any bytes, areas and state are answered, and a refusal changes nothing.
 #![tactic(auto)]
 
-ghost use Rattle.std.specs.Prelude.{◌≡◌, length, ◌≤◌, min};
+ghost use Rattle.std.specs.Prelude.{◌≡◌, length, ◌≤◌};
 ghost use Rattle.model.specs.Framing.{stream_of, stream_in, audio, waterfall, other_stream};
 ghost use Rattle.model.specs.Questions.{first_no, stream_allowed};
 ghost use Rattle.calls.specs.Views.{model_side, sizes_of};
@@ -13,13 +13,12 @@ ghost use Rattle.receiver_state.specs.Promises.{verdict_of, Ready};
 ghost use Rattle.receiver_datagrams.specs.Promises.{model_stream, counted_on, header_questions, HeaderReady, DatagramTaken};
 
 use calls::{Side, Sizes};
-use reassembler::CompletedRow;
 use receiver_state::asking::{Verdict, asked};
 use receiver_state::counted::{count_call, count_header, refusal};
 use receiver_state::sides::{audio_on, waterfall_on};
 use receiver_state::{Answer, Answered, Receiver};
 use udp::StreamCounts;
-use udp_framing::{MediaHeader, ParsedHeader};
+use udp_framing::MediaHeader;
 
 // The stream of a datagram: a channel's sound or rows, or one that no channel takes.
 #[derive(Clone, Copy)]
@@ -52,13 +51,6 @@ fn counted_on(counts: StreamCounts, side: Side, sequence: u32) -> StreamCounts
     }
 }
 
-// Where a payload begins: at most at the datagram's end.
-fn payload_start(start: usize, end: usize) -> usize
-    ensures { result ≡ min start end }
-{
-    if start < end { start } else { end }
-}
-
 // A datagram of a channel's sound.
 fn heard(
     r: Receiver,
@@ -77,7 +69,8 @@ fn heard(
     let counts = counted_on(former, side, sequence);
     let begun = count_header(r, counts, rows);
     let start = udp_framing::audio_samples_offset(header.version);
-    let from = payload_start(start, bytes.len());
+    // A payload begins at the datagram's end at most.
+    let from = start.min(bytes.len());
     let taken = audio_on(begun, fs, us, side, sequence, &bytes[from..]);
     Answered {
         receiver: count_call(taken),
@@ -104,13 +97,12 @@ fn seen(
     let begun = count_header(r, sound, counts);
     let shown = waterfall_on(begun, fs, us, side, &bytes[16..]);
     let after = shown.receiver;
-    let completed = shown.completed;
-    match completed {
-        CompletedRow::NoRow => Answered {
+    match shown.completed {
+        None => Answered {
             receiver: count_call(after),
             answer: Answer::NoRow,
         },
-        CompletedRow::Bins(n) => Answered {
+        Some(n) => Answered {
             receiver: count_call(after),
             answer: Answer::Row(n),
         },
@@ -183,7 +175,7 @@ fn received(r: Receiver, fs: &mut [f32], us: &mut [u32], bytes: &[u8]) -> Answer
     requires { Ready r fs.old us.old }
     ensures { DatagramTaken r fs.old us.old bytes.now result fs.new us.new }
 {
-    let ParsedHeader::Header(header) = udp_framing::parse_media_header(bytes) else {
+    let Some(header) = udp_framing::parse_media_header(bytes) else {
         return refusal(r, 6);
     };
     if 65535 < bytes.len() {

@@ -46,8 +46,8 @@ fn zero_pictures(z: Sizes, us: &mut [u32])
     let start = sizes::word_section(z);
     let at = sizes::most_waiting(z);
     let n = z.width * z.height;
-    areas::fill_u32(us, at, n, 0);
-    areas::fill_u32(us, start + at, n, 0);
+    areas::fill(us, at, n, 0);
+    areas::fill(us, start + at, n, 0);
 }
 
 // The receiver before its first call.

@@ -1,4 +1,5 @@
 -- A waterfall payload at the receiver: the f32 area is lent from where the channel's section begins to the end of the work section, and put back. Assumes nothing.
+use Rattle.std.proofs.Common.{Option, None, Some}
 use mathlib.Core.Path.{◌≡◌, refl, sym, ◌∙◌, ap}
 use mathlib.Core.Bool.{true}
 use mathlib.Core.Option.{some}
@@ -20,8 +21,6 @@ use Rattle.calls.specs.declared.Side.TheVariants.{A, B}
 use Rattle.calls.specs.Views.{sizes_of}
 use Rattle.areas.proofs.Placed.{part_length, part_part, part_within}
 use Rattle.areas.proofs.PutBack.{part_put_back}
-use Rattle.reassembler.specs.declared.CompletedRow.{CompletedRow}
-use Rattle.reassembler.specs.declared.CompletedRow.TheVariants as Completed
 use Rattle.reassembler.specs.Rows.{completed_of, CompletedInside}
 use Rattle.channel.specs.declared.Channel.{Channel}
 use Rattle.channel.specs.declared.Shown.{Shown}
@@ -132,9 +131,9 @@ module _ (r : Receiver) (fs : List Float) (us payload : List ℕ) (ready : Sides
         channel_reads r.sizes shown.channel channel_inside ys (drop f rows_put) vs (drop w words_back) (sym section_put) (ap (take (word_section (sizes_of r.sizes))) (sym words_put_law))
 
     -- the completed row stands at its place
-    completed_put : (x : CompletedRow) → CompletedInside x r.sizes.bins → completed_of x (drop (row_at (sizes_of r.sizes)) ys) ≡ completed_of x (drop (row_place (sizes_of r.sizes) side) rows_put)
-    completed_put Completed.NoRow inside = refl
-    completed_put (Completed.Bins n) inside =
+    completed_put : (x : Option ℕ) → CompletedInside x r.sizes.bins → completed_of x (drop (row_at (sizes_of r.sizes)) ys) ≡ completed_of x (drop (row_place (sizes_of r.sizes) side) rows_put)
+    completed_put None inside = refl
+    completed_put (Some n) inside =
         ap some (sym (part_put (row_at (sizes_of r.sizes)) n (omega (arith, float_section_is (sizes_of r.sizes), inside.1, start_few))))
 
 -- ---- the other channel

@@ -3,7 +3,7 @@ ghost use Rattle.std.specs.Prelude.{◌≡◌};
 ghost use Rattle.receiver_state.specs.Report.{sound_in, stream_in, report_of};
 
 use crate::Receiver;
-use audio_metrics::{OneWay, Timing};
+use audio_metrics::ClockTiming;
 use jitter_buffer::JitterBuffer;
 use udp::StreamCounts;
 
@@ -36,8 +36,8 @@ pub struct Report {
     // Streams 1 and 2.
     pub audio: StreamReport,
     pub waterfall: StreamReport,
-    pub timing: Timing,
-    pub one_way: OneWay,
+    pub timing: Option<ClockTiming>,
+    pub one_way: Option<i64>,
 }
 
 fn sound_in(jitter: JitterBuffer) -> SoundReport

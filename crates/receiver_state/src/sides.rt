@@ -14,7 +14,6 @@ ghost use Rattle.receiver_state.specs.Promises.{SidesReady, SideTaken, RowsTaken
 use crate::Receiver;
 use calls::{Side, Sizes};
 use channel::Channel;
-use reassembler::CompletedRow;
 
 // Where a channel's sections begin in the two areas.
 #[derive(Clone, Copy)]
@@ -107,7 +106,7 @@ pub fn audio_on(
 #[derive(Clone, Copy)]
 pub struct RowsShown {
     pub receiver: Receiver,
-    pub completed: CompletedRow,
+    pub completed: Option<usize>,
 }
 
 // A waterfall payload of a channel, before the call is counted. What is lent ends with the work section.

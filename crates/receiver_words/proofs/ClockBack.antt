@@ -1,24 +1,24 @@
 -- A clock whose view is known is known. Assumes nothing.
 use mathlib.Core.Path.{◌≡◌, refl, sym, ◌∙◌, ap}
 use Rattle.model.specs.Clock as Clock
-use Rattle.audio_metrics.specs.declared.Timing.{Timing}
-use Rattle.audio_metrics.specs.declared.OneWay.{OneWay}
-use Rattle.audio_metrics.specs.declared.Jitter.{Jitter}
+use Rattle.std.specs.Prelude.{Option, None, Some, ℤ}
+use Rattle.audio_metrics.specs.declared.ClockTiming.{ClockTiming}
+use Rattle.audio_metrics.specs.declared.JitterDepth.{JitterDepth}
 use Rattle.audio_metrics.specs.declared.AudioMetrics.{AudioMetrics}
 use Rattle.audio_metrics.specs.Views.{timing_of, delay_of, depth_of, clock_of}
 use Rattle.receiver_words.specs.State.{timing_back, delay_back, depth_back, clock_back}
 
-timing_back_law : (t : Timing) → timing_back (timing_of t) ≡ t
-timing_back_law Timing.Unknown = refl
-timing_back_law (Timing.Known t) = refl
+timing_back_law : (t : Option ClockTiming) → timing_back (timing_of t) ≡ t
+timing_back_law None = refl
+timing_back_law (Some t) = refl
 
-delay_back_law : (d : OneWay) → delay_back (delay_of d) ≡ d
-delay_back_law OneWay.Unknown = refl
-delay_back_law (OneWay.Known n) = refl
+delay_back_law : (d : Option ℤ) → delay_back (delay_of d) ≡ d
+delay_back_law None = refl
+delay_back_law (Some n) = refl
 
-depth_back_law : (d : Jitter) → depth_back (depth_of d) ≡ d
-depth_back_law Jitter.Unknown = refl
-depth_back_law (Jitter.Known d) = refl
+depth_back_law : (d : Option JitterDepth) → depth_back (depth_of d) ≡ d
+depth_back_law None = refl
+depth_back_law (Some d) = refl
 
 pub clock_back_law : (m : AudioMetrics) → clock_back (clock_of m) ≡ m
 unfolding clock_back

@@ -1,4 +1,5 @@
 -- The words that a receiver was written to are read back as that receiver, where its numbers are of the widths that the structs have. Assumes nothing.
+use Rattle.std.proofs.Common.{Option, None, Some}
 use Prim.Native.Nat.{ℕ, ◌^◌, ◌≤◌, ◌<◌}
 use native.Mathlib.Nat.{mod-eq_of_lt}
 use native.Mathlib.Omega.{arith}
@@ -15,34 +16,25 @@ use Rattle.audio_metrics_words.specs.Words.{clock_in, clock_words}
 use Rattle.audio_metrics_words.proofs.ReadBack as Clock
 use Rattle.audio_metrics_words.proofs.ReadBack.{float_read_back, words_read_back}
 use Rattle.jitter_buffer.specs.declared.JitterBuffer.{JitterBuffer}
-use Rattle.jitter_buffer.specs.declared.NextSequence.{NextSequence}
-use Rattle.jitter_buffer.specs.declared.NextSequence.TheVariants.{NotStarted, Next}
 use Rattle.udp.specs.declared.Display.{Display}
-use Rattle.udp.specs.declared.LastSequence.{LastSequence}
-use Rattle.udp.specs.declared.LastSequence.TheVariants.{Unknown, Known}
 use Rattle.udp.specs.declared.StreamCounts.{StreamCounts}
 use Rattle.udp_packets.specs.declared.Screen.{Screen}
-use Rattle.reassembler.specs.declared.WaterfallReassembler.{WaterfallReassembler}
-use Rattle.reassembler.specs.declared.WaterfallReassembler.TheVariants.{NoRow, Open}
+use Rattle.reassembler.specs.declared.OpenRow.{OpenRow}
 use Rattle.channel.specs.declared.Channel.{Channel}
 use Rattle.receiver_state.specs.declared.Receiver.{Receiver}
-use Rattle.receiver_words.specs.Words.{last_in, counts_in, next_in, buffer_in, row_in, display_in, screen_in, flag_word, known_word, last_word, count_words, started_word, next_word, buffer_words, row_words, screen_words}
+use Rattle.receiver_words.specs.Words.{sequence_in, counts_in, buffer_in, row_in, display_in, screen_in, flag_word, known_word, sequence_word, count_words, buffer_words, row_words, screen_words}
 use Rattle.receiver_words.specs.State.{clock_back, channel_read, receiver_at, channel_words, receiver_words}
 use Rattle.receiver_words.proofs.ClockBack.{clock_back_law}
 
 -- ---- the widths of the structs' fields
 
-abbrev pub LastWide : LastSequence → Type 0
-LastWide Unknown = Unit {0}
-LastWide (Known s) = s < 2 ^ 32
+abbrev pub SequenceWide : Option ℕ → Type 0
+SequenceWide None = Unit {0}
+SequenceWide (Some s) = s < 2 ^ 32
 
-abbrev pub NextWide : NextSequence → Type 0
-NextWide NotStarted = Unit {0}
-NextWide (Next s) = s < 2 ^ 32
-
-abbrev pub RowWide : WaterfallReassembler → Type 0
-RowWide NoRow = Unit {0}
-RowWide (Open r) = r.row_seq < 2 ^ 16
+abbrev pub RowWide : Option OpenRow → Type 0
+RowWide None = Unit {0}
+RowWide (Some r) = r.row_seq < 2 ^ 16
 
 pub record DisplayWide (d : Display) : Type 0 where
   pub top : T (fits binary32 d.top)
@@ -54,13 +46,13 @@ pub record DisplayWide (d : Display) : Type 0 where
   pub range_estimate_law : T (fits binary32 d.range_estimate)
 
 pub record ChannelWide (c : Channel) : Type 0 where
-  pub next : NextWide c.jitter.next_sequence
+  pub next : SequenceWide c.jitter.next_sequence
   pub row : RowWide c.screen.row
   pub display : DisplayWide c.screen.display
 
 pub record Wide (r : Receiver) : Type 0 where
-  pub audio : LastWide r.audio.last
-  pub waterfall : LastWide r.waterfall.last
+  pub audio : SequenceWide r.audio.last
+  pub waterfall : SequenceWide r.waterfall.last
   pub a : ChannelWide r.a
   pub b : ChannelWide r.b
   pub clock : Clock.Wide (clock_of r.clock)
@@ -71,29 +63,24 @@ flag_back : (b : Bool) → not (eqb (flag_word b) 0) ≡ b
 flag_back false = refl
 flag_back true = refl
 
-last_back : (l : LastSequence) → LastWide l → last_in (known_word l) (last_word l) ≡ l
-unfolding last_in
-last_back Unknown wide = refl
-last_back (Known s) wide = ap Known (mod-eq_of_lt wide)
+sequence_back : (s : Option ℕ) → SequenceWide s → sequence_in (known_word s) (sequence_word s) ≡ s
+unfolding sequence_in
+sequence_back None wide = refl
+sequence_back (Some s) wide = ap Some (mod-eq_of_lt wide)
 
-next_back : (n : NextSequence) → NextWide n → next_in (started_word n) (next_word n) ≡ n
-unfolding next_in
-next_back NotStarted wide = refl
-next_back (Next s) wide = ap Next (mod-eq_of_lt wide)
+counts_back : (c : StreamCounts) (rest : List ℕ) → SequenceWide c.last → counts_in (count_words c ++ rest) ≡ c
+counts_back c rest wide = rw (sequence_back c.last wide)
 
-counts_back : (c : StreamCounts) (rest : List ℕ) → LastWide c.last → counts_in (count_words c ++ rest) ≡ c
-counts_back c rest wide = rw (last_back c.last wide)
-
-buffer_back : (j : JitterBuffer) (rest : List ℕ) → NextWide j.next_sequence → buffer_in (buffer_words j ++ rest) ≡ j
-buffer_back j rest wide = rw (next_back j.next_sequence wide)
+buffer_back : (j : JitterBuffer) (rest : List ℕ) → SequenceWide j.next_sequence → buffer_in (buffer_words j ++ rest) ≡ j
+buffer_back j rest wide = rw (sequence_back j.next_sequence wide)
 
 row_back : (s : Screen) (rest : List ℕ) → RowWide s.row → row_in (screen_words s ++ rest) ≡ s.row
 unfolding row_in screen_words
 row_back s rest wide = row_of s.row wide
   where
-    row_of : (r : WaterfallReassembler) → RowWide r → row_in (row_words r) ≡ r
-    row_of NoRow w = refl
-    row_of (Open o) w = rw (mod-eq_of_lt w, flag_back o.done)
+    row_of : (r : Option OpenRow) → RowWide r → row_in (row_words r) ≡ r
+    row_of None w = refl
+    row_of (Some o) w = rw (mod-eq_of_lt w, flag_back o.done)
 
 display_back : (s : Screen) (rest : List ℕ) → DisplayWide s.display → display_in (screen_words s ++ rest) ≡ s.display
 unfolding screen_words
@@ -101,7 +88,7 @@ display_back s rest wide =
     let d = s.display in
     rw (flag_back d.adaptive, float_read_back d.top wide.top, float_read_back d.range wide.range, float_read_back d.zoom wide.zoom, float_read_back d.smoothing wide.smoothing, float_read_back d.top_estimate wide.top_estimate_law, float_read_back d.floor_estimate wide.floor_estimate_law, float_read_back d.range_estimate wide.range_estimate_law)
 
-abbrev screen_made : Screen → WaterfallReassembler → Display → Screen
+abbrev screen_made : Screen → Option OpenRow → Display → Screen
 screen_made s row display = record { row = row; spectrum_len = s.spectrum_len; smooth_len = s.smooth_len; display = display }
 
 screen_back : (s : Screen) (rest : List ℕ) → RowWide s.row → DisplayWide s.display → screen_in (screen_words s ++ rest) ≡ s
@@ -109,7 +96,7 @@ unfolding screen_words
 screen_back s rest row-wide wide =
     let row = row_back s rest row-wide in
     let display = display_back s rest wide in
-    ap (λ (x : WaterfallReassembler). screen_made s x (display_in (screen_words s ++ rest))) row ∙ ap (λ (x : Display). screen_made s s.row x) display
+    ap (λ (x : Option OpenRow). screen_made s x (display_in (screen_words s ++ rest))) row ∙ ap (λ (x : Display). screen_made s s.row x) display
 
 channel_back : (c : Channel) (rest : List ℕ) → ChannelWide c → channel_read (channel_words c ++ rest) ≡ c
 unfolding channel_read channel_words

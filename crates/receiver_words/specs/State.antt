@@ -1,11 +1,11 @@
 -- The receiver that 90 words are, the 90 words of a receiver, and the four words of an answer. Assumes nothing.
-use Rattle.std.specs.Prelude.{ℕ, Bool, true, false, cond, List, [], ◌∷◌, ◌++◌, get_or, drop, ℤ}
-use Rattle.std.proofs.Math.Option.{Option, none, some}
+use Rattle.std.specs.Prelude.{ℕ, Bool, true, false, cond, List, [], ◌∷◌, ◌++◌, get_or, drop, ℤ, Option, None, Some}
+use Rattle.std.proofs.Math.Option as Maybe
+use Rattle.std.proofs.Math.Option.{none, some}
 use Rattle.std.proofs.lemmas.List.Edits.{sets}
 use Rattle.model.specs.Clock as Clock
-use Rattle.audio_metrics.specs.declared.Timing.{Timing}
-use Rattle.audio_metrics.specs.declared.OneWay.{OneWay}
-use Rattle.audio_metrics.specs.declared.Jitter.{Jitter}
+use Rattle.audio_metrics.specs.declared.ClockTiming.{ClockTiming}
+use Rattle.audio_metrics.specs.declared.JitterDepth.{JitterDepth}
 use Rattle.audio_metrics.specs.declared.AudioMetrics.{AudioMetrics}
 use Rattle.audio_metrics.specs.Views.{clock_of}
 use Rattle.audio_metrics_words.specs.Words.{clock_in, clock_words}
@@ -20,17 +20,17 @@ use Rattle.receiver_words.specs.Words.{sizes_in, counts_in, buffer_in, screen_in
 
 -- ---- the clock of the model's clock
 
-abbrev pub timing_back : Option Clock.Timing → Timing
-timing_back none = Timing.Unknown
-timing_back (some t) = Timing.Known (record { offset_ns = t.offset; rtt_ns = t.round_trip; min_rtt_ns = t.least })
+abbrev pub timing_back : Maybe.Option Clock.Timing → Option ClockTiming
+timing_back none = None
+timing_back (some t) = Some (record { offset_ns = t.offset; rtt_ns = t.round_trip; min_rtt_ns = t.least })
 
-abbrev pub delay_back : Option ℤ → OneWay
-delay_back none = OneWay.Unknown
-delay_back (some n) = OneWay.Known n
+abbrev pub delay_back : Maybe.Option ℤ → Option ℤ
+delay_back none = None
+delay_back (some n) = Some n
 
-abbrev pub depth_back : Option Clock.Depth → Jitter
-depth_back none = Jitter.Unknown
-depth_back (some d) = Jitter.Known (record { jitter_avg_ms = d.average; jitter_peak_ms = d.peak })
+abbrev pub depth_back : Maybe.Option Clock.Depth → Option JitterDepth
+depth_back none = None
+depth_back (some d) = Some (record { jitter_avg_ms = d.average; jitter_peak_ms = d.peak })
 
 unfoldable pub clock_back : Clock.Clock → AudioMetrics
 clock_back k =

@@ -1,18 +1,13 @@
 -- How sizes, counts, a buffer and a screen go to and from callers in other languages: as words in a lent slice. Assumes nothing.
-use Rattle.std.specs.Prelude.{ℕ, ◌%◌, ◌^◌, Bool, true, false, cond, not, List, [], ◌∷◌, get_or, eqb}
+use Rattle.std.specs.Prelude.{ℕ, ◌%◌, ◌^◌, Bool, true, false, cond, not, Option, None, Some, List, [], ◌∷◌, get_or, eqb}
 use Rattle.model.specs.Floats.{to_bits}
 use Rattle.audio_metrics_words.specs.Words.{float_in}
 use Rattle.calls.specs.declared.Sizes.{Sizes}
 use Rattle.jitter_buffer.specs.declared.JitterBuffer.{JitterBuffer}
-use Rattle.jitter_buffer.specs.declared.NextSequence.{NextSequence}
-use Rattle.jitter_buffer.specs.declared.NextSequence.TheVariants.{NotStarted, Next}
 use Rattle.udp.specs.declared.Display.{Display}
-use Rattle.udp.specs.declared.LastSequence.{LastSequence}
-use Rattle.udp.specs.declared.LastSequence.TheVariants.{Unknown, Known}
 use Rattle.udp.specs.declared.StreamCounts.{StreamCounts}
 use Rattle.udp_packets.specs.declared.Screen.{Screen}
-use Rattle.reassembler.specs.declared.WaterfallReassembler.{WaterfallReassembler}
-use Rattle.reassembler.specs.declared.WaterfallReassembler.TheVariants.{NoRow, Open}
+use Rattle.reassembler.specs.declared.OpenRow.{OpenRow}
 
 -- ---- words read: a flag of 0 says that what follows it is absent
 
@@ -28,21 +23,18 @@ sizes_in w =
     }
 
 -- of a sequence the low 32 bits count
-unfoldable pub last_in : ℕ → ℕ → LastSequence
-last_in known last = cond (eqb known 0) Unknown (Known (last % 2 ^ 32))
+unfoldable pub sequence_in : ℕ → ℕ → Option ℕ
+sequence_in known s = cond (eqb known 0) None (Some (s % 2 ^ 32))
 
 abbrev pub counts_in : List ℕ → StreamCounts
 counts_in w =
-    record { packets = get_or w 0 0; dropped = get_or w 1 0; late = get_or w 2 0; last = last_in (get_or w 3 0) (get_or w 4 0) }
-
-unfoldable pub next_in : ℕ → ℕ → NextSequence
-next_in started next = cond (eqb started 0) NotStarted (Next (next % 2 ^ 32))
+    record { packets = get_or w 0 0; dropped = get_or w 1 0; late = get_or w 2 0; last = sequence_in (get_or w 3 0) (get_or w 4 0) }
 
 abbrev pub buffer_in : List ℕ → JitterBuffer
 buffer_in w =
     record {
       max_observed_buffered_samples = get_or w 0 0;
-      next_sequence = next_in (get_or w 1 0) (get_or w 2 0);
+      next_sequence = sequence_in (get_or w 1 0) (get_or w 2 0);
       pending_len = get_or w 3 0;
       playout_len = get_or w 4 0;
       consecutive_conceals = get_or w 5 0;
@@ -57,11 +49,11 @@ buffer_in w =
     }
 
 -- of a row's number the low 16 bits count
-unfoldable pub row_in : List ℕ → WaterfallReassembler
+unfoldable pub row_in : List ℕ → Option OpenRow
 row_in w =
     cond (eqb (get_or w 0 0) 0)
-    NoRow
-    (Open (record { row_seq = get_or w 1 0 % 2 ^ 16; total_bins = get_or w 2 0; filled = get_or w 3 0; done = not (eqb (get_or w 4 0) 0) }))
+    None
+    (Some (record { row_seq = get_or w 1 0 % 2 ^ 16; total_bins = get_or w 2 0; filled = get_or w 3 0; done = not (eqb (get_or w 4 0) 0) }))
 
 abbrev pub display_in : List ℕ → Display
 display_in w =
@@ -85,35 +77,27 @@ abbrev pub flag_word : Bool → ℕ
 flag_word false = 0
 flag_word true = 1
 
-abbrev pub known_word : LastSequence → ℕ
-known_word Unknown = 0
-known_word (Known s) = 1
+abbrev pub known_word : Option ℕ → ℕ
+known_word None = 0
+known_word (Some s) = 1
 
-abbrev pub last_word : LastSequence → ℕ
-last_word Unknown = 0
-last_word (Known s) = s
+abbrev pub sequence_word : Option ℕ → ℕ
+sequence_word None = 0
+sequence_word (Some s) = s
 
 abbrev pub count_words : StreamCounts → List ℕ
-count_words c = c.packets ∷ c.dropped ∷ c.late ∷ known_word c.last ∷ last_word c.last ∷ []
-
-abbrev pub started_word : NextSequence → ℕ
-started_word NotStarted = 0
-started_word (Next s) = 1
-
-abbrev pub next_word : NextSequence → ℕ
-next_word NotStarted = 0
-next_word (Next s) = s
+count_words c = c.packets ∷ c.dropped ∷ c.late ∷ known_word c.last ∷ sequence_word c.last ∷ []
 
 abbrev pub buffer_words : JitterBuffer → List ℕ
 buffer_words j =
-    j.max_observed_buffered_samples ∷ started_word j.next_sequence ∷ next_word j.next_sequence ∷ j.pending_len
+    j.max_observed_buffered_samples ∷ known_word j.next_sequence ∷ sequence_word j.next_sequence ∷ j.pending_len
     ∷ j.playout_len ∷ j.consecutive_conceals ∷ j.packets_received ∷ j.packets_inserted ∷ j.packets_missing_concealed
     ∷ j.packets_dropped_late ∷ j.packets_dropped_overflow ∷ j.packets_dropped_invalid_size ∷ j.resync_count ∷ j.filled
     ∷ []
 
-abbrev pub row_words : WaterfallReassembler → List ℕ
-row_words NoRow = 0 ∷ 0 ∷ 0 ∷ 0 ∷ 0 ∷ []
-row_words (Open r) = 1 ∷ r.row_seq ∷ r.total_bins ∷ r.filled ∷ flag_word r.done ∷ []
+abbrev pub row_words : Option OpenRow → List ℕ
+row_words None = 0 ∷ 0 ∷ 0 ∷ 0 ∷ 0 ∷ []
+row_words (Some r) = 1 ∷ r.row_seq ∷ r.total_bins ∷ r.filled ∷ flag_word r.done ∷ []
 
 unfoldable pub screen_words : Screen → List ℕ
 screen_words s =

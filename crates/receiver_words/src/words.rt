@@ -1,12 +1,12 @@
 // Sizes, a stream's counts, a jitter buffer and a screen in words.
 ghost use Rattle.std.specs.Prelude.{◌≡◌, ◌≤◌, length};
-ghost use Rattle.receiver_words.specs.Words.{sizes_in, last_in, counts_in, next_in, buffer_in, row_in, display_in, screen_in, flag_word, known_word, last_word, count_words, started_word, next_word, buffer_words, row_words, screen_words};
+ghost use Rattle.receiver_words.specs.Words.{sizes_in, sequence_in, counts_in, buffer_in, row_in, display_in, screen_in, flag_word, known_word, sequence_word, count_words, buffer_words, row_words, screen_words};
 
 use audio_metrics_words::{float_from, float_word};
 use calls::Sizes;
-use jitter_buffer::{JitterBuffer, NextSequence};
-use reassembler::{OpenRow, WaterfallReassembler};
-use udp::{Display, LastSequence, StreamCounts};
+use jitter_buffer::JitterBuffer;
+use reassembler::OpenRow;
+use udp::{Display, StreamCounts};
 use udp_packets::Screen;
 
 fn flag_word(b: bool) -> u64
@@ -29,46 +29,48 @@ pub fn sizes_from(w: &[u64]) -> Sizes
     }
 }
 
-// ---- counts
+// ---- a sequence, if there is one
 
-fn last_from(known: u64, last: u64) -> LastSequence
-    ensures { result ≡ last_in known last }
+fn sequence_from(known: u64, sequence: u64) -> Option<u32>
+    ensures { result ≡ sequence_in known sequence }
 {
     if known == 0 {
-        LastSequence::Unknown
+        None
     } else {
-        LastSequence::Known((last % 4294967296) as u32)
+        Some((sequence % 4294967296) as u32)
     }
 }
+
+fn known_word(sequence: Option<u32>) -> u64
+    ensures { result ≡ known_word sequence }
+{
+    match sequence {
+        None => 0,
+        Some(_) => 1,
+    }
+}
+
+fn sequence_word(sequence: Option<u32>) -> u64
+    ensures { result ≡ sequence_word sequence }
+{
+    match sequence {
+        None => 0,
+        Some(s) => s as u64,
+    }
+}
+
+// ---- counts
 
 pub fn counts_from(w: &[u64]) -> StreamCounts
     requires { 5 ≤ length w.now }
     ensures { result ≡ counts_in w.now }
 {
-    let last = last_from(w[3], w[4]);
+    let last = sequence_from(w[3], w[4]);
     StreamCounts {
         packets: w[0],
         dropped: w[1],
         late: w[2],
         last,
-    }
-}
-
-fn known_word(last: LastSequence) -> u64
-    ensures { result ≡ known_word last }
-{
-    match last {
-        LastSequence::Unknown => 0,
-        LastSequence::Known(_) => 1,
-    }
-}
-
-fn last_word(last: LastSequence) -> u64
-    ensures { result ≡ last_word last }
-{
-    match last {
-        LastSequence::Unknown => 0,
-        LastSequence::Known(s) => s as u64,
     }
 }
 
@@ -81,27 +83,17 @@ pub fn count_words(c: StreamCounts) -> [u64; 5]
         c.dropped,
         c.late,
         known_word(last),
-        last_word(last),
+        sequence_word(last),
     ]
 }
 
 // ---- a jitter buffer
 
-fn next_from(started: u64, next: u64) -> NextSequence
-    ensures { result ≡ next_in started next }
-{
-    if started == 0 {
-        NextSequence::NotStarted
-    } else {
-        NextSequence::Next((next % 4294967296) as u32)
-    }
-}
-
 pub fn buffer_from(w: &[u64]) -> JitterBuffer
     requires { 14 ≤ length w.now }
     ensures { result ≡ buffer_in w.now }
 {
-    let next = next_from(w[1], w[2]);
+    let next = sequence_from(w[1], w[2]);
     JitterBuffer {
         max_observed_buffered_samples: w[0] as usize,
         next_sequence: next,
@@ -119,32 +111,14 @@ pub fn buffer_from(w: &[u64]) -> JitterBuffer
     }
 }
 
-fn started_word(next: NextSequence) -> u64
-    ensures { result ≡ started_word next }
-{
-    match next {
-        NextSequence::NotStarted => 0,
-        NextSequence::Next(_) => 1,
-    }
-}
-
-fn next_word(next: NextSequence) -> u64
-    ensures { result ≡ next_word next }
-{
-    match next {
-        NextSequence::NotStarted => 0,
-        NextSequence::Next(s) => s as u64,
-    }
-}
-
 pub fn buffer_words(j: JitterBuffer) -> [u64; 14]
     ensures { result ≡ buffer_words j }
 {
     let next = j.next_sequence;
     [
         j.max_observed_buffered_samples as u64,
-        started_word(next),
-        next_word(next),
+        known_word(next),
+        sequence_word(next),
         j.pending_len as u64,
         j.playout_len as u64,
         j.consecutive_conceals as u64,
@@ -161,14 +135,14 @@ pub fn buffer_words(j: JitterBuffer) -> [u64; 14]
 
 // ---- a screen
 
-fn row_from(w: &[u64]) -> WaterfallReassembler
+fn row_from(w: &[u64]) -> Option<OpenRow>
     requires { 15 ≤ length w.now }
     ensures { result ≡ row_in w.now }
 {
     if w[0] == 0 {
-        return WaterfallReassembler::NoRow;
+        return None;
     }
-    WaterfallReassembler::Open(OpenRow {
+    Some(OpenRow {
         row_seq: (w[1] % 65536) as u16,
         total_bins: w[2] as usize,
         filled: w[3] as usize,
@@ -206,10 +180,10 @@ pub fn screen_from(w: &[u64]) -> Screen
     }
 }
 
-fn row_words(row: WaterfallReassembler) -> [u64; 5]
+fn row_words(row: Option<OpenRow>) -> [u64; 5]
     ensures { result ≡ row_words row }
 {
-    let WaterfallReassembler::Open(open) = row else {
+    let Some(open) = row else {
         return [0, 0, 0, 0, 0];
     };
     [

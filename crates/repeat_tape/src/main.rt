@@ -10,8 +10,7 @@ mod rounds;
 use receiver_setup::Opening;
 use receiver_state::Receiver;
 use std::io::Stdin;
-use tape::SetupRead;
-use udp_framing::big_endian::read_u16;
+use udp_framing::big_endian::BigEndian;
 
 // File descriptors.
 const STDERR_FILENO: i32 = 2;
@@ -31,15 +30,11 @@ fn tell(samples: &[f32], r: Receiver) {
 
 // All rounds over the areas that were lent.
 fn repeat(tape: &mut [u8], count: u32, fs: &mut [f32], us: &mut [u32], samples: &mut [f32]) {
-    let front = tape::reader::setup_of(tape);
-    let SetupRead::Found(setup) = front else {
+    let Ok(setup) = tape::reader::setup_of(tape) else {
         say(b"repeat_tape: the tape is refused\n");
         return;
     };
-    let sizes = setup.sizes;
-    let a = setup.a;
-    let b = setup.b;
-    let opening = receiver_setup::setup(sizes, a, b, fs, us);
+    let opening = receiver_setup::setup(setup.sizes, setup.a, setup.b, fs, us);
     let Opening::Ready(begun) = opening else {
         say(b"repeat_tape: the setup is refused\n");
         return;
@@ -60,21 +55,16 @@ fn lend(tape: &mut [u8], count: u32) {
     with_words(tape, count, &mut us);
 }
 
-fn run(stdin: Stdin, bytes: &mut [u8]) {
-    let mut reader = stdin;
-    let read = input::read_all(&mut reader, bytes);
-    let n = read.bytes;
-    if read.failed {
+fn run(mut stdin: Stdin, bytes: &mut [u8]) {
+    let Ok(n) = input::read_all(&mut stdin, bytes) else {
         say(b"repeat_tape: standard input could not be read\n");
         return;
-    }
+    };
     if n < 4 {
         say(b"repeat_tape: there is no number of rounds\n");
         return;
     }
-    let high = read_u16(bytes, 0) as u32;
-    let low = read_u16(bytes, 2) as u32;
-    let count = 65536 * high + low;
+    let count = u32::read_from(bytes, 0);
     lend(&mut bytes[4..n], count);
 }
 

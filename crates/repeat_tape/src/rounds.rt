@@ -4,7 +4,6 @@ ghost use Rattle.std.specs.Prelude.{◌≡◌, ◌+◌, ◌<◌, ◌≤◌, leng
 use receiver_state::Receiver;
 use replaying::acting::{Acted, act};
 use std::num::{wrapping_add_u32, wrapping_add_u64};
-use tape::Step;
 use tape::reader::{call_at, step_at};
 
 // Where a round stands: the receiver, the next call's place, the audio datagrams so far, and how many calls may still come.
@@ -115,8 +114,7 @@ fn one(t: Standing, tape: &[u8], fs: &mut [f32], us: &mut [u32], samples: &mut [
     ensures { result.left < t.left }
 {
     let place = t.place;
-    let step = step_at(tape, place);
-    let Step::Next(next) = step else {
+    let Ok(Some(next)) = step_at(tape, place) else {
         return ended(t);
     };
     let r = t.receiver;

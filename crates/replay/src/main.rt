@@ -18,14 +18,11 @@ fn replay(tape: &[u8]) {
 }
 
 // Of a longer tape one byte more than the limit is read.
-fn run(stdin: Stdin, tape: &mut [u8]) {
-    let mut reader = stdin;
-    let read = input::read_all(&mut reader, tape);
-    let n = read.bytes;
-    if read.failed {
+fn run(mut stdin: Stdin, tape: &mut [u8]) {
+    let Ok(n) = input::read_all(&mut stdin, tape) else {
         output::say(b"replay: standard input could not be read\n");
         return;
-    }
+    };
     replay(&tape[..n]);
 }
 

@@ -7,7 +7,7 @@ use playback_opening::Beginning;
 use playback_opening::limits::begin_limited;
 use playback_parts::{Form, Playback};
 use playback_pieces::{Stop, pieces};
-use tape::Found;
+use tape::{Call, Placed};
 
 // File descriptors.
 const STDERR_FILENO: i32 = 2;
@@ -129,16 +129,17 @@ fn with_many_samples(w: Playback, tape: &[u8], fs: &mut [f32], us: &mut [u32], t
 
 // The samples that the call at a place asks for.
 fn asked_at(tape: &[u8], place: usize) -> usize {
-    let found = tape::reader::call_at(tape, place);
-    let Found::Play {
-        side: _,
-        samples,
-        next: _,
-    } = found
-    else {
-        return 0;
-    };
-    samples as usize
+    match tape::reader::call_at(tape, place) {
+        Ok(
+            Some(
+                Placed {
+                    call: Call::Play { side: _, samples },
+                    next: _,
+                },
+            ),
+        ) => samples as usize,
+        _ => 0,
+    }
 }
 
 // The rest of a replay whose next call asks for so many samples. Most plays ask for few, and memory that is not touched

@@ -1,52 +1,46 @@
 -- Each answer's line, from its beginning and what is left of it. Assumes nothing.
 use Prim.Native.Nat.{ℕ, ◌≤◌}
-use mathlib.Core.Path.{◌≡◌, refl, sym, ◌∙◌, ap}
+use mathlib.Core.Path.{◌≡◌, refl, sym, ◌∙◌}
 use mathlib.Core.List.{List, [], ◌∷◌, ◌++◌, map, append-nil}
 use native.Mathlib.Omega.{arith}
 use lib.ListN.{length}
 use lib.Ieee.{Float}
-use borrow.Author.Tests.{le-leb}
+use Rattle.std.proofs.Common.{Option, Some}
 use Rattle.model.specs.Framing.{Side}
 use Rattle.model.specs.Replay.{decimal, line, answer_line}
-use Rattle.text.specs.declared.Put.{Put}
 use Rattle.text.proofs.WrittenLaws.{none_placed}
 use Rattle.lines.specs.Lines.{head, Piece}
-use Rattle.lines.proofs.Pieces.{play_line_pieces, row_line_pieces, refused_line_is}
+use Rattle.lines.proofs.Pieces.{piece_length, piece_target, play_line_pieces, row_line_pieces, refused_line_is}
 use Rattle.receiver_state.specs.declared.Answer.{Answer}
 use Rattle.receiver_state.specs.declared.Answer.TheVariants.{Refused, Accepted, Played, NoRow, Row}
 use Rattle.receiver_state.specs.View.{answer_of}
 use Rattle.replaying.specs.declared.printing.Left.{Left}
 use Rattle.replaying.specs.declared.printing.Left.TheVariants.{Nothing, Samples, Values}
-use Rattle.replaying.specs.Printing.{length_put, left_of, left_behind, LineBegun}
+use Rattle.replaying.specs.Printing.{left_of, left_behind, LineBegun}
 
 -- a piece that had room
-piece_begun : {most : ℕ} {text entry exit : List ℕ} {p : Put} (side : Side) (a : Answer) (left : Left) → left ≡ left_behind a → most ≤ length entry → Piece most text entry exit p
-    → ((values : List Float) → answer_line side (answer_of a values) ≡ text ++ left_of left values) → LineBegun side a entry exit (record { written = length_put p; left = left })
-piece_begun {most} {text} {entry} side a left left_is room p is =
-    record {
-      text = text;
-      written = ap length_put (rw (le-leb most (length entry) room) at p.answered);
-      target = rw (le-leb most (length entry) room) at p.target;
-      left = left_is;
-      line = is;
-    }
+piece_begun : {most written : ℕ} {text entry exit : List ℕ} {p : Option ℕ} (side : Side) (a : Answer) (left : Left) → left ≡ left_behind a → most ≤ length entry → Piece most text entry exit p
+    → p ≡ Some written → ((values : List Float) → answer_line side (answer_of a values) ≡ text ++ left_of left values)
+    → LineBegun side a entry exit (record { written = written; left = left })
+piece_begun {most} {written} {text} {entry} side a left left_is room piece answered is =
+    record { text = text; written = piece_length piece room answered; target = piece_target piece room; left = left_is; line = is }
 
-module _ (side : Side) {entry exit : List ℕ} {p : Put} (room : 66 ≤ length entry) where
+module _ (side : Side) {written : ℕ} {entry exit : List ℕ} {p : Option ℕ} (room : 66 ≤ length entry) (answered : p ≡ Some written) where
   pub refused_begun : (n : ℕ) → Piece 23 (line 88 (map decimal (n ∷ []))) entry exit p
-      → LineBegun side (Refused n) entry exit (record { written = length_put p; left = Nothing })
+      → LineBegun side (Refused n) entry exit (record { written = written; left = Nothing })
   unfolding answer_line
-  refused_begun n piece = piece_begun side (Refused n) Nothing refl (omega arith) piece (λ values. refused_line_is n ∙ sym (append-nil _))
+  refused_begun n piece = piece_begun side (Refused n) Nothing refl (omega arith) piece answered (λ values. refused_line_is n ∙ sym (append-nil _))
 
   pub played_begun : (taken dropped short : ℕ) → Piece 66 (head 80 side (taken ∷ dropped ∷ short ∷ [])) entry exit p
-      → LineBegun side (Played taken dropped short) entry exit (record { written = length_put p; left = Samples })
+      → LineBegun side (Played taken dropped short) entry exit (record { written = written; left = Samples })
   unfolding answer_line
   played_begun taken dropped short piece =
-      piece_begun side (Played taken dropped short) Samples refl room piece
+      piece_begun side (Played taken dropped short) Samples refl room piece answered
       (λ values. play_line_pieces side (record { samples = values; taken = taken; dropped = dropped; short = short }))
 
-  pub row_begun : (n : ℕ) → Piece 3 (head 87 side []) entry exit p → LineBegun side (Row n) entry exit (record { written = length_put p; left = Values n })
+  pub row_begun : (n : ℕ) → Piece 3 (head 87 side []) entry exit p → LineBegun side (Row n) entry exit (record { written = written; left = Values n })
   unfolding answer_line
-  row_begun n piece = piece_begun side (Row n) (Values n) refl (omega arith) piece (λ values. row_line_pieces side _)
+  row_begun n piece = piece_begun side (Row n) (Values n) refl (omega arith) piece answered (λ values. row_line_pieces side _)
 
 -- answers without a line
 pub accepted_begun : (side : Side) (entry : List ℕ) → LineBegun side Accepted entry entry (record { written = 0; left = Nothing })

@@ -3,7 +3,6 @@ use Rattle.std.specs.Prelude.{ℕ, ◌≡◌, List, [], ◌∷◌, ◌++◌, map
 use Rattle.model.specs.Bytes.{placed}
 use Rattle.model.specs.Framing.{Side}
 use Rattle.model.specs.Replay.{hex_bits, answer_line}
-use Rattle.text.specs.declared.Put.{Put}
 use Rattle.lines.specs.Lines.{spaced}
 use Rattle.receiver_state.specs.declared.Answer.{Answer}
 use Rattle.receiver_state.specs.declared.Answer.TheVariants.{Refused, Accepted, Played, NoRow, Row}
@@ -11,11 +10,6 @@ use Rattle.receiver_state.specs.View.{answer_of}
 use Rattle.replaying.specs.declared.printing.Left.{Left}
 use Rattle.replaying.specs.declared.printing.Left.TheVariants.{Nothing, Samples, Values}
 use Rattle.replaying.specs.declared.printing.Begun.{Begun}
-
--- how many bytes a piece has
-abbrev pub length_put : Put → ℕ
-length_put (Put.Next n) = n
-length_put Put.NoRoom = 0
 
 -- values, and then the end of the line
 abbrev pub values_ended : List Float → List ℕ

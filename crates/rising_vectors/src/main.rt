@@ -10,12 +10,18 @@ ghost use Rattle.model.specs.Bytes.{all};
 // A file descriptor.
 const STDOUT_FILENO: i32 = 1;
 
+// The sort that is held against the vectors.
+#[derive(Clone, Copy)]
+enum Sort {
+    Merging,
+    Digits,
+}
+
 #[derive(Clone, Copy)]
 struct Tally {
     seen: u64,
     different: u64,
-    // Whether the sort by digits is held against the vectors, or the one by merging.
-    by_digits: bool,
+    sort: Sort,
 }
 
 fn write(text: &[u8]) {
@@ -28,79 +34,69 @@ fn write_pattern(x: f32) {
 }
 
 fn write_patterns(values: &[f32]) {
-    let mut i = 0;
-    while i < values.len() {
-        write_pattern(values[i]);
-        i += 1;
+    for x in values {
+        write_pattern(*x);
     }
 }
 
 // The rest of a vector's line, and the tally with it.
 fn finish(t: Tally, equal: bool) -> Tally {
-    let seen = std::num::wrapping_add_u64(t.seen, 1);
+    let seen = t.seen.wrapping_add(1);
     if equal {
         write(b" equal\n");
-        return Tally {
-            seen,
-            different: t.different,
-            by_digits: t.by_digits,
-        };
+        return Tally { seen, ..t };
     }
     write(b" DIFFERS\n");
     Tally {
         seen,
-        different: std::num::wrapping_add_u64(t.different, 1),
-        by_digits: t.by_digits,
+        different: t.different.wrapping_add(1),
+        ..t
     }
 }
 
 fn all_finite(values: &[f32]) -> bool
     ensures { result ≡ all finite values.now }
 {
-    let mut i = 0;
-    while i < values.len() {
-        if !floats::is_finite(values[i]) {
+    for x in values {
+        if !floats::is_finite(*x) {
             return false;
         }
-        i += 1;
     }
     true
 }
 
 // Sorts what may be sorted, and says whether it did.
-fn sorted(by_digits: bool, values: &mut [f32], spare: &mut [f32]) -> bool {
+fn sorted(sort: Sort, values: &mut [f32], spare: &mut [f32]) -> bool {
     if spare.len() < values.len() {
         return false;
     }
-    if all_finite(values) {
-        if by_digits {
-            radix::sort_by_digits(values, spare);
-        } else {
-            rising::sort_rising(values, spare);
+    let finite = all_finite(values);
+    if finite {
+        match sort {
+            Sort::Merging => rising::sort_rising(values, spare),
+            Sort::Digits => radix::sort_by_digits(values, spare),
         }
-        return true;
     }
-    false
+    finite
 }
 
-fn same_patterns<'a>(found: &'a [f32], expected: &'a [f32]) -> bool {
+// Two zeros of different signs are level, but no same patterns.
+fn same_patterns(found: &[f32], expected: &[f32]) -> bool {
     if found.len() != expected.len() {
         return false;
     }
-    let mut i = 0;
-    while i < found.len() {
-        if floats::to_bits(found[i]) != floats::to_bits(expected[i]) {
+    for (x, y) in found.iter().zip(expected) {
+        if floats::to_bits(*x) != floats::to_bits(*y) {
             return false;
         }
-        i += 1;
     }
     true
 }
 
 // One short list, sorted and held against its rising order.
-fn short<'a>(t: Tally, name: &'a [u8], values: &mut [f32], expected: &'a [f32]) -> Tally {
+fn short(t: Tally, name: &[u8], values: &mut [f32], expected: &[f32]) -> Tally {
     let mut spare = [0.0f32; 8];
-    let done = sorted(t.by_digits, values, &mut spare);
+    let done = sorted(t.sort, values, &mut spare);
     write(name);
     write(b":");
     write_patterns(values);
@@ -196,21 +192,17 @@ fn value(kind: Kind, x: u32) -> f32
 
 fn fill(run: Run, kind: Kind, values: &mut [f32]) {
     let mut x: u32 = 0;
-    let mut i = 0;
-    while i < values.len() {
+    for v in values.iter_mut() {
         x = next(run, x);
-        values[i] = value(kind, x);
-        i += 1;
+        *v = value(kind, x);
     }
 }
 
 fn in_rising_order(values: &[f32]) -> bool {
-    let mut i = 1;
-    while i < values.len() {
+    for i in 1..values.len() {
         if values[i] < values[i - 1] {
             return false;
         }
-        i += 1;
     }
     true
 }
@@ -235,7 +227,7 @@ fn long(t: Tally, name: &[u8], kind: Kind, run: Run, order: Run) -> Tally {
     let mut values = room();
     let mut spare = room();
     fill(run, kind, &mut values);
-    let done = sorted(t.by_digits, &mut values, &mut spare);
+    let done = sorted(t.sort, &mut values, &mut spare);
     fill(order, kind, &mut spare);
     write(name);
     write(b":");
@@ -298,11 +290,11 @@ fn main() {
     let mut t = Tally {
         seen: 0,
         different: 0,
-        by_digits: false,
+        sort: Sort::Merging,
     };
     write(b"by merging\n");
     t = all_lists(t);
-    t.by_digits = true;
+    t.sort = Sort::Digits;
     write(b"by digits\n");
     t = all_lists(t);
     if t.different == 0 {

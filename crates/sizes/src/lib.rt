@@ -3,7 +3,7 @@
 #![tactic(auto)]
 
 ghost use Rattle.std.specs.Prelude.{◌≡◌, true};
-ghost use Rattle.model.specs.Sizes.{between, sizes_allowed, most_waiting, float_section, word_section, float_area, word_area};
+ghost use Rattle.model.specs.Sizes.{sizes_allowed, most_waiting, float_section, word_section, float_area, word_area};
 ghost use Rattle.calls.specs.Views.{sizes_of};
 ghost use Rattle.sizes.specs.View.{offsets_of};
 
@@ -20,32 +20,17 @@ pub struct Offsets {
     pub picture: usize,
 }
 
-fn within(low: usize, high: usize, n: usize) -> bool
-    ensures { result ≡ between low high n }
-{
-    if low <= n { n <= high } else { false }
-}
-
 // Question 1: whether a receiver may have these sizes.
+#[tactic(auto, unfolding(model::specs::Sizes::sizes_allowed))]
 pub fn allowed(z: Sizes) -> bool
     ensures { result ≡ sizes_allowed (sizes_of z) }
 {
-    if !within(1, 4096, z.packet) {
-        return false;
-    }
-    if !within(z.packet, 65536, z.target) {
-        return false;
-    }
-    if !within(z.target, 131072, z.max) {
-        return false;
-    }
-    if !within(1, 65535, z.bins) {
-        return false;
-    }
-    if !within(1, 4096, z.width) {
-        return false;
-    }
-    within(1, 4096, z.height)
+    (1..=4096).contains(&z.packet)
+        && (z.packet..=65536).contains(&z.target)
+        && (z.target..=131072).contains(&z.max)
+        && (1..=65535).contains(&z.bins)
+        && (1..=4096).contains(&z.width)
+        && (1..=4096).contains(&z.height)
 }
 
 // The most packets that wait: max / packet, rounded up.

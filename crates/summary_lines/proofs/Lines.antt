@@ -5,18 +5,17 @@ use mathlib.Core.List.{List, [], ◌∷◌, ◌++◌, map}
 use native.Mathlib.Omega.{arith}
 use lib.ListN.{length, set}
 use borrow.Author.Tests.{le-leb}
+use Rattle.std.proofs.Common.{Option, Some}
 use Rattle.model.specs.Framing.{Side}
 use Rattle.model.specs.Replay.{decimal, line, side_letter}
 use Rattle.model.specs.Summary.{play_summary, row_summary, answer_summary}
 use Rattle.model.proofs.ListLaws.{placed_length}
-use Rattle.text.specs.declared.Put.{Put}
 use Rattle.text.proofs.FittedLaws.{Fitted, fitted_behind}
 use Rattle.text.proofs.WrittenLaws.{none_placed}
 use Rattle.lines.specs.Lines.{head, Piece}
 use Rattle.lines.proofs.WordLaws.{rest_is_spaced}
 use Rattle.lines.proofs.Pieces.{byte_fitted, refused_line_is}
 use Rattle.receiver_state.specs.declared.Answer.TheVariants.{Refused, Accepted, Played, NoRow, Row}
-use Rattle.replaying.specs.Printing.{length_put}
 use Rattle.playback_parts.specs.Parts.{TextPut}
 use Rattle.playback_parts.proofs.Texts.{piece_put}
 use Rattle.summary_lines.specs.Summaries.{SummaryPut}
@@ -31,7 +30,7 @@ module _ (letter : ℕ) (side : Side) (numbers : List ℕ) where
   unfolding line head
   line_is = ap (λ (xs : List ℕ). letter ∷ xs) (rest_is_spaced words)
 
-  module _ {entry exit : List ℕ} {p : Put} {end : ℕ} (room : 4 + 21 * length numbers ≤ length entry) (piece : Piece (3 + 21 * length numbers) (head letter side numbers) entry exit p) (is : end ≡ length_put p) where
+  module _ {entry exit : List ℕ} {p : Option ℕ} {end : ℕ} (room : 4 + 21 * length numbers ≤ length entry) (piece : Piece (3 + 21 * length numbers) (head letter side numbers) entry exit p) (is : p ≡ Some end) where
     begins : TextPut (head letter side numbers) entry exit end
     begins = piece_put (omega arith) piece is
 

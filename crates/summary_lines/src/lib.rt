@@ -9,15 +9,13 @@ ghost use Rattle.summary_lines.specs.Summaries.{SummaryPut};
 
 use calls::Side;
 use receiver_state::Answer;
-use replaying::printing::length_put;
 
 // A letter, a channel and numbers, to the line's end.
 fn put_numbered(text: &mut [u8], letter: u8, side: Side, numbers: &[u64]) -> usize
     requires { 4 + 21 * length numbers.now ≤ length text.old }
     ensures { TextPut (line letter ((side_letter (model_side side) ∷ []) ∷ map decimal numbers.now)) text.old text.new result }
 {
-    let head = lines::put_head(text, letter, side, numbers);
-    let end = length_put(head);
+    let end = lines::put_head(text, letter, side, numbers).unwrap();
     text[end] = b'\n';
     end + 1
 }
@@ -28,11 +26,8 @@ pub fn put_summary(text: &mut [u8], side: Side, answer: Answer, values: usize) -
     ensures { SummaryPut (model_side side) answer values text.old text.new result }
 {
     match answer {
-        Answer::Refused(n) => {
-            let refused = lines::put_line(text, b'X', &[n as u64]);
-            length_put(refused)
-        }
-        Answer::Accepted => 0,
+        Answer::Refused(n) => lines::put_line(text, b'X', &[n as u64]).unwrap(),
+        Answer::Accepted | Answer::NoRow => 0,
         Answer::Played {
             taken,
             dropped,
@@ -43,7 +38,6 @@ pub fn put_summary(text: &mut [u8], side: Side, answer: Answer, values: usize) -
             side,
             &[taken as u64, dropped as u64, short as u64],
         ),
-        Answer::NoRow => 0,
         Answer::Row(_) => put_numbered(text, b'W', side, &[values as u64]),
     }
 }

@@ -11,13 +11,13 @@ use Rattle.model.specs.Bytes.{all}
 use Rattle.model.specs.Receiver.{Call}
 use Rattle.model.specs.Tape.{read, put_call, put_setup, put_end}
 use Rattle.model.proofs.BytesLaws.{is_byte}
-use Rattle.tape.specs.Answers.{verdict_of, setup_answer}
+use Rattle.std.specs.Prelude.{Result, Ok, Err}
+use Rattle.tape.specs.declared.BadWord.{BadWord}
+use Rattle.tape.specs.Answers.{bad_at, verdict_of, setup_answer}
 use Rattle.tape_writer.specs.Answers.{Wrote}
-use Rattle.tape_writer.specs.declared.Put.{Put}
+use Rattle.std.specs.Prelude.{Result}
+use Rattle.tape_writer.specs.declared.PutError.{PutError}
 use Rattle.tape.specs.declared.Setup.{Setup}
-use Rattle.tape.specs.declared.SetupRead.{SetupRead}
-use Rattle.tape.specs.declared.SetupRead.TheVariants as setupRead
-use Rattle.tape.specs.declared.Checked.{Checked}
 use Rattle.tape_exports.specs.Numbers.{handed, largest, verdict_number, setup_numbers, put_number}
 use Rattle.tape_exports.specs.Promises.{VerdictHanded, SetupHanded, PutHanded}
 use Rattle.tape_exports.proofs.Places.{verdict_below, setup_below, call_below, setup_put_below, end_below}
@@ -47,10 +47,10 @@ sets_is_handed (b ∷ l) (v ∷ vs) = sets_behind v l 0 vs ∙ ap (λ (r : List 
 -- ---- what is read
 
 module _ {tape : List ℕ} (are : all is_byte tape ≡ true) (fits : length tape < 2 ^ 64) where
-  pub verdict_handed : {v : Checked} → v ≡ verdict_of (read tape) → VerdictHanded tape (verdict_number v)
+  pub verdict_handed : {v : Result (Unit {0}) BadWord} → v ≡ verdict_of (read tape) → VerdictHanded tape (verdict_number v)
   verdict_handed e = record { answered = ap verdict_number e; below = verdict_below tape are fits }
 
-  pub setup_handed : {entry exit : List ℕ} {s : SetupRead} {x : Setup} → s ≡ setup_answer (read tape) → s ≡ setupRead.Found x
+  pub setup_handed : {entry exit : List ℕ} {s : Result Setup BadWord} {x : Setup} → s ≡ setup_answer (read tape) → s ≡ Ok x
       → exit ≡ sets entry 0 (setup_numbers x) → SetupHanded tape entry exit largest
   setup_handed {entry} {exit} {s} {x} e f h =
       record {
@@ -59,13 +59,13 @@ module _ {tape : List ℕ} (are : all is_byte tape ≡ true) (fits : length tape
         out = rw (← e, f) (h ∙ sets_is_handed entry (setup_numbers x));
       }
 
-  pub bad_handed : {entry : List ℕ} {s : SetupRead} {place : ℕ} → s ≡ setup_answer (read tape) → s ≡ setupRead.Bad place
+  pub bad_handed : {entry : List ℕ} {s : Result Setup BadWord} {place : ℕ} → s ≡ setup_answer (read tape) → s ≡ Err (bad_at place)
       → SetupHanded tape entry entry place
   bad_handed e f = record { answered = rw (← e, f); below = setup_below tape are fits; out = rw (← e, f) }
 
 -- ---- what is written
 
-module _ (place : ℕ) {old new : List ℕ} {a : Put} {r : ℕ} (fits : length old < 2 ^ 64) (e : r ≡ put_number a) where
+module _ (place : ℕ) {old new : List ℕ} {a : Result ℕ PutError} {r : ℕ} (fits : length old < 2 ^ 64) (e : r ≡ put_number a) where
   pub call_handed : (c : Call) → Wrote (put_call place c old) old new a → PutHanded (put_call place c old) old new r
   call_handed c w = record { answered = e ∙ ap put_number w.answers; below = call_below place old fits c; target = w.target }
 

@@ -1,16 +1,14 @@
 -- The tape's answers as numbers, for programs in other languages. Assumes nothing.
-use Rattle.std.specs.Prelude.{ℕ, ◌-◌, Bool, true, false, cond, List, [], ◌∷◌, ◌++◌, length, take, drop, eqb}
+use Rattle.std.specs.Prelude.{ℕ, ◌-◌, Bool, true, false, cond, List, [], ◌∷◌, ◌++◌, length, take, drop, eqb, Some, None, Result, Ok, Err}
 use Rattle.calls.specs.declared.Side.{Side}
 use Rattle.calls.specs.declared.Side.TheVariants.{A, B}
 use Rattle.tape.specs.declared.Setup.{Setup}
-use Rattle.tape.specs.declared.SetupRead.{SetupRead}
-use Rattle.tape.specs.declared.SetupRead.TheVariants as setupRead
-use Rattle.tape.specs.declared.Checked.{Checked}
-use Rattle.tape.specs.declared.Checked.TheVariants as checked
-use Rattle.tape.specs.declared.Found.{Found}
-use Rattle.tape.specs.declared.Found.TheVariants as found
-use Rattle.tape_writer.specs.declared.Put.{Put}
-use Rattle.tape_writer.specs.declared.Put.TheVariants as answer
+use Rattle.tape.specs.declared.BadWord.{BadWord}
+use Rattle.tape.specs.Answers.{Found}
+use Rattle.tape.specs.declared.Call.{Call}
+use Rattle.tape.specs.declared.Call.TheVariants as call
+use Rattle.tape_writer.specs.declared.PutError.{PutError}
+use Rattle.tape_writer.specs.declared.PutError.TheVariants as putError
 
 -- ---- a lent slice
 
@@ -40,9 +38,9 @@ abbrev pub largest : ℕ
 largest = 18446744073709551615
 
 -- the place of the first bad word; the largest number where there is none
-abbrev pub verdict_number : Checked → ℕ
-verdict_number checked.Accepted = largest
-verdict_number (checked.Bad place) = place
+abbrev pub verdict_number : Result (Unit {0}) BadWord → ℕ
+verdict_number (Ok tt) = largest
+verdict_number (Err bad) = bad.place
 
 -- the six sizes, then top, floor and range of A and of B
 abbrev pub setup_numbers : Setup → List ℕ
@@ -61,35 +59,39 @@ setup_numbers x =
     ∷ x.b.range
     ∷ []
 
-abbrev pub setup_number : SetupRead → ℕ
-setup_number (setupRead.Found x) = largest
-setup_number (setupRead.Bad place) = place
+abbrev pub setup_number : Result Setup BadWord → ℕ
+setup_number (Ok x) = largest
+setup_number (Err bad) = bad.place
 
 -- the slice that was lent for a setup: as it was where there is none
-abbrev pub setup_out : SetupRead → List ℕ → List ℕ
-setup_out (setupRead.Found x) out = handed (setup_numbers x) out
-setup_out (setupRead.Bad place) out = out
+abbrev pub setup_out : Result Setup BadWord → List ℕ → List ℕ
+setup_out (Ok x) out = handed (setup_numbers x) out
+setup_out (Err bad) out = out
 
--- which kind, the place after it or of the bad word, then the fields
-abbrev pub found_numbers : Found → List ℕ
-found_numbers (found.Datagram at len next) = 1 ∷ next ∷ at ∷ len ∷ []
-found_numbers (found.Play side samples next) = 2 ∷ next ∷ side_number side ∷ samples ∷ []
-found_numbers (found.Reset side next) = 3 ∷ next ∷ side_number side ∷ 0 ∷ []
-found_numbers (found.Set side x next) =
+-- a call: which kind, the place after it, then the fields
+abbrev pub call_numbers : Call → ℕ → List ℕ
+call_numbers (call.Datagram at len) next = 1 ∷ next ∷ at ∷ len ∷ []
+call_numbers (call.Play side samples) next = 2 ∷ next ∷ side_number side ∷ samples ∷ []
+call_numbers (call.Reset side) next = 3 ∷ next ∷ side_number side ∷ 0 ∷ []
+call_numbers (call.Set side x) next =
     4 ∷ next ∷ side_number side ∷ flag_number x.adaptive ∷ x.top ∷ x.range ∷ x.zoom ∷ x.smoothing ∷ []
-found_numbers (found.Probe t1 t2 t3 t4 next) = 5 ∷ next ∷ t1 ∷ t2 ∷ t3 ∷ t4 ∷ []
-found_numbers (found.OneWay receive send next) = 6 ∷ next ∷ receive ∷ send ∷ []
-found_numbers (found.Depth samples k next) =
+call_numbers (call.Probe t1 t2 t3 t4) next = 5 ∷ next ∷ t1 ∷ t2 ∷ t3 ∷ t4 ∷ []
+call_numbers (call.OneWay receive send) next = 6 ∷ next ∷ receive ∷ send ∷ []
+call_numbers (call.Depth samples k) next =
     7 ∷ next ∷ samples ∷ k.conceals ∷ k.late ∷ k.overflow ∷ k.resyncs ∷ []
-found_numbers (found.TransmitDepth samples next) = 8 ∷ next ∷ samples ∷ 0 ∷ []
-found_numbers found.End = 9 ∷ 0 ∷ 0 ∷ 0 ∷ []
-found_numbers (found.Bad place) = 10 ∷ place ∷ 0 ∷ 0 ∷ []
+call_numbers (call.TransmitDepth samples) next = 8 ∷ next ∷ samples ∷ 0 ∷ []
+
+-- the same of what stands at a place; the end and a bad word are kinds of their own
+abbrev pub found_numbers : Found → List ℕ
+found_numbers (Ok (Some placed)) = call_numbers placed.call placed.next
+found_numbers (Ok None) = 9 ∷ 0 ∷ 0 ∷ 0 ∷ []
+found_numbers (Err bad) = 10 ∷ bad.place ∷ 0 ∷ 0 ∷ []
 
 -- ---- what is written
 
 -- the place after what was written, or the largest number less the refusal's. The place of a refusal 11 is the one that the
 -- caller gave.
-abbrev pub put_number : Put → ℕ
-put_number (answer.Next next) = next
-put_number (answer.TooLarge place) = largest - 11
-put_number answer.NoRoom = largest - 2
+abbrev pub put_number : Result ℕ PutError → ℕ
+put_number (Ok next) = next
+put_number (Err (putError.TooLarge place)) = largest - 11
+put_number (Err putError.NoRoom) = largest - 2

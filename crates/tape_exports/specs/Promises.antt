@@ -1,12 +1,8 @@
 -- What each export promises: the numbers are those of the tape's answer. Assumes nothing.
-use Rattle.std.specs.Prelude.{ℕ, ◌-◌, ◌<◌, ◌≡◌, List}
+use Rattle.std.specs.Prelude.{ℕ, ◌-◌, ◌<◌, ◌≡◌, List, Ok, Err}
 use Rattle.model.specs.Tape as Tape
 use Rattle.model.specs.Tape.{call_at, read}
-use Rattle.tape.specs.declared.Found.{Found}
-use Rattle.tape.specs.declared.Checked.TheVariants as checked
-use Rattle.tape.specs.declared.SetupRead.TheVariants as setupRead
-use Rattle.tape_writer.specs.declared.Put.TheVariants as answer
-use Rattle.tape.specs.Answers.{IsFound, verdict_of, setup_answer}
+use Rattle.tape.specs.Answers.{Found, IsFound, bad_at, verdict_of, setup_answer}
 use Rattle.tape_writer.specs.Answers.{answer_of, target_after}
 use Rattle.tape_exports.specs.Numbers.{handed, largest, verdict_number, setup_number, setup_out, found_numbers, put_number}
 
@@ -14,13 +10,13 @@ use Rattle.tape_exports.specs.Numbers.{handed, largest, verdict_number, setup_nu
 pub record VerdictHanded (tape : List ℕ) (r : ℕ) : Type 0 where
   pub answered : r ≡ verdict_number (verdict_of (read tape))
   -- no place is the largest number
-  pub below : (place : ℕ) → verdict_of (read tape) ≡ checked.Bad place → place < largest
+  pub below : (place : ℕ) → verdict_of (read tape) ≡ Err (bad_at place) → place < largest
 
 -- the setup of a tape, in a slice that a bad tape leaves as it was
 pub record SetupHanded (tape entry exit : List ℕ) (r : ℕ) : Type 0 where
   pub answered : r ≡ setup_number (setup_answer (read tape))
   -- no place is the largest number
-  pub below : (place : ℕ) → setup_answer (read tape) ≡ setupRead.Bad place → place < largest
+  pub below : (place : ℕ) → setup_answer (read tape) ≡ Err (bad_at place) → place < largest
   pub out : exit ≡ setup_out (setup_answer (read tape)) entry
 
 -- what stands at a place of a tape
@@ -33,5 +29,5 @@ pub record CallHanded (tape : List ℕ) (place : ℕ) (entry exit : List ℕ) : 
 pub record PutHanded (p : Tape.Put) (old new : List ℕ) (r : ℕ) : Type 0 where
   pub answered : r ≡ put_number (answer_of p)
   -- no place is a refusal's number
-  pub below : (next : ℕ) → answer_of p ≡ answer.Next next → next < largest - 11
+  pub below : (next : ℕ) → answer_of p ≡ Ok next → next < largest - 11
   pub target : new ≡ target_after p old

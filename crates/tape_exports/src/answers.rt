@@ -1,12 +1,12 @@
 // A tape's answers as numbers at the front of a lent slice.
 ghost use Rattle.std.specs.Prelude.{◌≡◌};
 ghost use Rattle.std.proofs.lemmas.List.Edits.{sets};
-ghost use Rattle.tape.specs.declared.Found.TheVariants as found;
-ghost use Rattle.tape_exports.specs.Numbers.{side_number, flag_number, setup_numbers, found_numbers};
+ghost use Rattle.tape.specs.declared.Call.TheVariants as call;
+ghost use Rattle.tape_exports.specs.Numbers.{side_number, flag_number, setup_numbers, call_numbers, found_numbers};
 
 use calls::{DepthCounts, Settings, Side};
 use numbers::put;
-use tape::{Found, Setup};
+use tape::{Call, Found, Placed, Setup};
 
 fn side_number(side: Side) -> u64
     ensures { result ≡ side_number side }
@@ -20,14 +20,11 @@ fn side_number(side: Side) -> u64
 fn flag(b: bool) -> u64
     ensures { result ≡ flag_number b }
 {
-    if b {
-        return 1;
-    }
-    0
+    u64::from(b)
 }
 
 fn put_set(out: &mut [u64], side: Side, x: Settings, next: usize)
-    ensures { out.new ≡ sets out.old 0 (found_numbers (found.Set side x next)) }
+    ensures { out.new ≡ sets out.old 0 (call_numbers (call.Set side x) next) }
 {
     let numbers = [
         4,
@@ -43,7 +40,7 @@ fn put_set(out: &mut [u64], side: Side, x: Settings, next: usize)
 }
 
 fn put_depth(out: &mut [u64], samples: u32, k: DepthCounts, next: usize)
-    ensures { out.new ≡ sets out.old 0 (found_numbers (found.Depth samples k next)) }
+    ensures { out.new ≡ sets out.old 0 (call_numbers (call.Depth samples k) next) }
 {
     let numbers = [
         7,
@@ -57,43 +54,33 @@ fn put_depth(out: &mut [u64], samples: u32, k: DepthCounts, next: usize)
     put(out, 0, &numbers);
 }
 
-// Which kind, the place after it or of the bad word, then the fields.
+// Of a call which kind, the place after it, then the fields.
+fn put_call(out: &mut [u64], placed: Placed)
+    ensures { out.new ≡ sets out.old 0 (call_numbers placed.call placed.next) }
+{
+    let next = placed.next;
+    match placed.call {
+        Call::Datagram { at, len } => put(out, 0, &[1, next as u64, at as u64, len as u64]),
+        Call::Play { side, samples } => {
+            put(out, 0, &[2, next as u64, side_number(side), samples as u64])
+        }
+        Call::Reset { side } => put(out, 0, &[3, next as u64, side_number(side), 0]),
+        Call::Set { side, settings } => put_set(out, side, settings, next),
+        Call::Probe { t1, t2, t3, t4 } => put(out, 0, &[5, next as u64, t1, t2, t3, t4]),
+        Call::OneWay { receive, send } => put(out, 0, &[6, next as u64, receive, send]),
+        Call::Depth { samples, counts } => put_depth(out, samples, counts, next),
+        Call::TransmitDepth { samples } => put(out, 0, &[8, next as u64, samples as u64, 0]),
+    }
+}
+
+// The same of what stands at a place; the end and a bad word, with its place, are kinds of their own.
 pub fn put_found(out: &mut [u64], f: Found)
     ensures { out.new ≡ sets out.old 0 (found_numbers f) }
 {
     match f {
-        Found::Datagram { at, len, next } => put(out, 0, &[1, next as u64, at as u64, len as u64]),
-        Found::Play {
-            side,
-            samples,
-            next,
-        } => put(out, 0, &[2, next as u64, side_number(side), samples as u64]),
-        Found::Reset { side, next } => put(out, 0, &[3, next as u64, side_number(side), 0]),
-        Found::Set {
-            side,
-            settings,
-            next,
-        } => put_set(out, side, settings, next),
-        Found::Probe {
-            t1,
-            t2,
-            t3,
-            t4,
-            next,
-        } => put(out, 0, &[5, next as u64, t1, t2, t3, t4]),
-        Found::OneWay {
-            receive,
-            send,
-            next,
-        } => put(out, 0, &[6, next as u64, receive, send]),
-        Found::Depth {
-            samples,
-            counts,
-            next,
-        } => put_depth(out, samples, counts, next),
-        Found::TransmitDepth { samples, next } => put(out, 0, &[8, next as u64, samples as u64, 0]),
-        Found::End => put(out, 0, &[9, 0, 0, 0]),
-        Found::Bad(bad) => put(out, 0, &[10, bad as u64, 0, 0]),
+        Ok(Some(placed)) => put_call(out, placed),
+        Ok(None) => put(out, 0, &[9, 0, 0, 0]),
+        Err(bad) => put(out, 0, &[10, bad.place as u64, 0, 0]),
     }
 }
 

@@ -2,17 +2,16 @@
 ghost use Rattle.tape_exports.specs.Promises.{VerdictHanded, SetupHanded, CallHanded};
 
 use crate::answers::{put_found, put_setup};
-use tape::{Checked, SetupRead, reader};
+use tape::reader;
 
 // The place of the first bad word, or the largest number where the tape is accepted.
 #[unsafe(no_mangle)]
 pub extern "C" fn tape_check(tape: &[u8]) -> u64
     ensures { VerdictHanded tape.now result }
 {
-    let v = reader::check(tape);
-    match v {
-        Checked::Accepted => 18446744073709551615,
-        Checked::Bad(bad) => bad as u64,
+    match reader::check(tape) {
+        Ok(()) => u64::MAX,
+        Err(bad) => bad.place as u64,
     }
 }
 
@@ -21,13 +20,12 @@ pub extern "C" fn tape_check(tape: &[u8]) -> u64
 pub extern "C" fn tape_setup(tape: &[u8], out: &mut [u64]) -> u64
     ensures { SetupHanded tape.now out.old out.new result }
 {
-    let s = reader::setup_of(tape);
-    match s {
-        SetupRead::Found(x) => {
+    match reader::setup_of(tape) {
+        Ok(x) => {
             put_setup(out, x);
-            18446744073709551615
+            u64::MAX
         }
-        SetupRead::Bad(bad) => bad as u64,
+        Err(bad) => bad.place as u64,
     }
 }
 

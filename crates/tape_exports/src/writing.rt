@@ -7,26 +7,23 @@ ghost use Rattle.tape_exports.specs.Numbers.{side_named, put_number};
 ghost use Rattle.tape_exports.specs.Promises.{PutHanded};
 
 use calls::{DepthCounts, Estimates, Settings, Side, Sizes};
-use tape_writer::Put;
+use tape_writer::PutError;
 
 // 0 is channel A and any other number B.
 fn side_of(n: u64) -> Side
     ensures { result ≡ side_named n }
 {
-    if n == 0 {
-        return Side::A;
-    }
-    Side::B
+    if n == 0 { Side::A } else { Side::B }
 }
 
 // The place after, or the largest number less the refusal's number: 11 or 2.
-fn answer(p: Put) -> u64
+fn answer(p: Result<usize, PutError>) -> u64
     ensures { result ≡ put_number p }
 {
     match p {
-        Put::Next(next) => next as u64,
-        Put::TooLarge(_) => 18446744073709551604,
-        Put::NoRoom => 18446744073709551613,
+        Ok(next) => next as u64,
+        Err(PutError::TooLarge { place: _ }) => u64::MAX - 11,
+        Err(PutError::NoRoom) => u64::MAX - 2,
     }
 }
 

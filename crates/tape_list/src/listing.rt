@@ -1,11 +1,11 @@
 // The lines of a tape.
 ghost use Rattle.std.specs.Prelude.{◌≡◌, ◌+◌, ◌≤◌, length};
-ghost use Rattle.tape.specs.Answers.{Inside};
+ghost use Rattle.tape.specs.Answers.{CallInside};
 
 use crate::words::{bits, end_of_line, number, place, side, word};
 use calls::{DepthCounts, Estimates, Settings, Sizes};
-use tape::{Found, Setup, SetupRead};
-use udp_framing::{MediaHeader, ParsedHeader};
+use tape::{BadWord, Call, Setup};
+use udp_framing::MediaHeader;
 
 // A file descriptor.
 const STDOUT_FILENO: i32 = 1;
@@ -63,10 +63,9 @@ fn no_header(line: &mut [u8], at: usize) -> usize {
 fn datagram(line: &mut [u8], at: usize, bytes: &[u8]) -> usize {
     let named = word(line, at, b"datagram");
     let counted = number(line, named, bytes.len() as u64);
-    let parsed = udp_framing::parse_media_header(bytes);
-    match parsed {
-        ParsedHeader::Header(h) => header(line, counted, h),
-        ParsedHeader::TooShort => no_header(line, counted),
+    match udp_framing::parse_media_header(bytes) {
+        Some(h) => header(line, counted, h),
+        None => no_header(line, counted),
     }
 }
 
@@ -85,137 +84,54 @@ fn counts(line: &mut [u8], at: usize, k: DepthCounts) -> usize {
     number(line, overflow, k.resyncs)
 }
 
-// The kind and the numbers of what was found, up to the line's end.
-fn found_words(line: &mut [u8], at: usize, tape: &[u8], found: Found) -> usize
-    requires { Inside tape.now found }
+// The kind and the numbers of a call.
+fn call_words(line: &mut [u8], at: usize, tape: &[u8], call: Call) -> usize
+    requires { CallInside tape.now call }
 {
-    match found {
-        Found::Datagram {
-            at: from,
-            len,
-            next: _,
-        } => datagram(line, at, &tape[from..from + len]),
-        Found::Play {
+    match call {
+        Call::Datagram { at: from, len } => datagram(line, at, &tape[from..from + len]),
+        Call::Play {
             side: channel,
             samples,
-            next: _,
         } => {
             let named = word(line, at, b"play");
             let of = side(line, named, channel);
             number(line, of, samples as u64)
         }
-        Found::Reset {
-            side: channel,
-            next: _,
-        } => {
+        Call::Reset { side: channel } => {
             let named = word(line, at, b"reset");
             side(line, named, channel)
         }
-        Found::Set {
+        Call::Set {
             side: channel,
             settings: x,
-            next: _,
         } => {
             let named = word(line, at, b"set");
             let of = side(line, named, channel);
             settings(line, of, x)
         }
-        Found::Probe {
-            t1,
-            t2,
-            t3,
-            t4,
-            next: _,
-        } => {
+        Call::Probe { t1, t2, t3, t4 } => {
             let named = word(line, at, b"probe");
             let a = number(line, named, t1);
             let b = number(line, a, t2);
             let c = number(line, b, t3);
             number(line, c, t4)
         }
-        Found::OneWay {
-            receive,
-            send,
-            next: _,
-        } => {
+        Call::OneWay { receive, send } => {
             let named = word(line, at, b"one-way");
             let received = number(line, named, receive);
             number(line, received, send)
         }
-        Found::Depth {
-            samples,
-            counts: k,
-            next: _,
-        } => {
+        Call::Depth { samples, counts: k } => {
             let named = word(line, at, b"depth");
             let waiting = number(line, named, samples as u64);
             counts(line, waiting, k)
         }
-        Found::TransmitDepth { samples, next: _ } => {
+        Call::TransmitDepth { samples } => {
             let named = word(line, at, b"transmit-depth");
             number(line, named, samples as u64)
         }
-        Found::End => word(line, at, b"end"),
-        Found::Bad(_) => word(line, at, b"bad"),
     }
-}
-
-// The place of what was found: a bad word's is its own.
-fn place_of(found: Found, at: usize) -> usize {
-    match found {
-        Found::Bad(bad) => bad,
-        _ => at,
-    }
-}
-
-// The place behind a call; 0 where the list ends.
-fn behind(found: Found) -> usize {
-    match found {
-        Found::Datagram {
-            at: _,
-            len: _,
-            next,
-        } => next,
-        Found::Play {
-            side: _,
-            samples: _,
-            next,
-        } => next,
-        Found::Reset { side: _, next } => next,
-        Found::Set {
-            side: _,
-            settings: _,
-            next,
-        } => next,
-        Found::Probe {
-            t1: _,
-            t2: _,
-            t3: _,
-            t4: _,
-            next,
-        } => next,
-        Found::OneWay {
-            receive: _,
-            send: _,
-            next,
-        } => next,
-        Found::Depth {
-            samples: _,
-            counts: _,
-            next,
-        } => next,
-        Found::TransmitDepth { samples: _, next } => next,
-        Found::End => 0,
-        Found::Bad(_) => 0,
-    }
-}
-
-// Where a list is: the next place, whether it goes on, and whether its lines could be written.
-#[derive(Clone, Copy)]
-struct Listing {
-    at: usize,
-    going: bool,
-    written: bool,
 }
 
 // A line of a place and a word.
@@ -235,71 +151,54 @@ fn ends_at(tape: &[u8], at: usize) -> bool {
     tape[from] == 0 && tape[from + 1] == 0 && tape[from + 2] == 0 && tape[from + 3] == 0
 }
 
-// An end word with something behind it is listed before the bad word.
-fn end_before(found: Found, tape: &[u8], at: usize, line: &mut [u8]) -> bool {
-    match found {
-        Found::Bad(_) => {
-            if !ends_at(tape, at) {
-                return true;
-            }
-            plain(line, at, b"end")
-        }
-        _ => true,
-    }
-}
-
-// What stands at the next place.
-fn next(k: Listing, tape: &[u8], line: &mut [u8]) -> Listing {
-    let here = k.at;
-    let found = tape_reader::found_at(tape, here);
-    if !end_before(found, tape, here, line) {
-        return Listing {
-            at: here,
-            going: false,
-            written: false,
-        };
-    }
-    let begun = place(line, place_of(found, here));
-    let worded = found_words(line, begun, tape, found);
+// The line of a call at a place.
+fn call_line(line: &mut [u8], at: usize, tape: &[u8], call: Call) -> bool
+    requires { CallInside tape.now call }
+{
+    let begun = place(line, at);
+    let worded = call_words(line, begun, tape, call);
     let ended = end_of_line(line, worded);
-    let written = put(line, ended);
-    let at = behind(found);
-    Listing {
-        at,
-        going: written && 0 < at,
-        written,
-    }
+    put(line, ended)
 }
 
-// The calls, one after the other; each takes a word of the tape at least.
-fn calls(tape: &[u8], line: &mut [u8]) -> bool {
-    let mut k = Listing {
-        at: 13,
-        going: true,
-        written: true,
-    };
-    let mut left = tape.len();
-    while 0 < left {
-        k = next(k, tape, line);
-        if !k.going {
-            return k.written;
-        }
-        left -= 1;
+// The line of a bad word, and before it that of an end word with something behind it.
+fn bad_lines(line: &mut [u8], at: usize, tape: &[u8], bad: BadWord) -> bool {
+    if ends_at(tape, at) && !plain(line, at, b"end") {
+        return false;
     }
-    k.written
+    plain(line, bad.place, b"bad")
+}
+
+// The calls, one after the other, and what ends them; each call takes a word of the tape at least. The answer is whether all could be
+// written.
+fn calls(tape: &[u8], line: &mut [u8]) -> bool {
+    let mut at = 13;
+    for _ in 0..tape.len() {
+        match tape_reader::found_at(tape, at) {
+            Ok(Some(placed)) => {
+                if !call_line(line, at, tape, placed.call) {
+                    return false;
+                }
+                at = placed.next;
+            }
+            Ok(None) => {
+                return plain(line, at, b"end");
+            }
+            Err(bad) => {
+                return bad_lines(line, at, tape, bad);
+            }
+        }
+    }
+    true
 }
 
 // The whole tape. The answer is whether all could be written.
 pub fn list(tape: &[u8], line: &mut [u8]) -> bool {
-    let front = tape::reader::opening(tape);
-    match front {
-        SetupRead::Bad(at) => plain(line, at, b"bad"),
-        SetupRead::Found(s) => {
+    match tape::reader::opening(tape) {
+        Ok(s) => {
             let n = setup(line, s);
-            if !put(line, n) {
-                return false;
-            }
-            calls(tape, line)
+            put(line, n) && calls(tape, line)
         }
+        Err(bad) => plain(line, bad.place, b"bad"),
     }
 }

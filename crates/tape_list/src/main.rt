@@ -26,14 +26,11 @@ fn list(tape: &[u8]) {
     }
 }
 
-fn run(stdin: Stdin, tape: &mut [u8]) {
-    let mut reader = stdin;
-    let read = input::read_all(&mut reader, tape);
-    let n = read.bytes;
-    if read.failed {
+fn run(mut stdin: Stdin, tape: &mut [u8]) {
+    let Ok(n) = input::read_all(&mut stdin, tape) else {
         say(b"tape_list: standard input could not be read\n");
         return;
-    }
+    };
     list(&tape[..n]);
 }
 

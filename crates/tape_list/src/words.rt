@@ -1,44 +1,27 @@
 // Words of a line, written one behind the other into lent bytes. Each function answers the place behind what it wrote, and
 // leaves out what has no room.
 use calls::Side;
-use text::Put;
-
-fn behind(put: Put, at: usize) -> usize {
-    match put {
-        Put::Next(next) => next,
-        Put::NoRoom => at,
-    }
-}
 
 pub fn number(line: &mut [u8], at: usize, n: u64) -> usize {
-    let space = text::put_byte(line, at, b' ');
-    let from = behind(space, at);
-    let digits = text::put_decimal(line, from, n);
-    behind(digits, from)
+    let from = text::put_byte(line, at, b' ').unwrap_or(at);
+    text::put_decimal(line, from, n).unwrap_or(from)
 }
 
 pub fn bits(line: &mut [u8], at: usize, n: u32) -> usize {
-    let space = text::put_byte(line, at, b' ');
-    let from = behind(space, at);
-    let digits = text::put_hex(line, from, n);
-    behind(digits, from)
+    let from = text::put_byte(line, at, b' ').unwrap_or(at);
+    text::put_hex(line, from, n).unwrap_or(from)
 }
 
 // A place, which begins a line.
 pub fn place(line: &mut [u8], n: usize) -> usize {
-    let digits = text::put_decimal(line, 0, n as u64);
-    behind(digits, 0)
+    text::put_decimal(line, 0, n as u64).unwrap_or(0)
 }
 
 // A word.
 pub fn word(line: &mut [u8], at: usize, letters: &[u8]) -> usize {
-    let space = text::put_byte(line, at, b' ');
-    let mut next = behind(space, at);
-    let mut i = 0;
-    while i < letters.len() {
-        let letter = text::put_byte(line, next, letters[i]);
-        next = behind(letter, next);
-        i += 1;
+    let mut next = text::put_byte(line, at, b' ').unwrap_or(at);
+    for letter in letters {
+        next = text::put_byte(line, next, *letter).unwrap_or(next);
     }
     next
 }
@@ -51,6 +34,5 @@ pub fn side(line: &mut [u8], at: usize, channel: Side) -> usize {
 }
 
 pub fn end_of_line(line: &mut [u8], at: usize) -> usize {
-    let end = text::put_byte(line, at, b'\n');
-    behind(end, at)
+    text::put_byte(line, at, b'\n').unwrap_or(at)
 }

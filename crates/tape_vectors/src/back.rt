@@ -1,9 +1,9 @@
 // What was written, read back field by field.
 use crate::report::{Tally, counted, numbers, text};
-use crate::sample::{after, every_call, settings, small};
+use crate::sample::{every_call, settings, small};
 use calls::{DepthCounts, Settings, Side};
-use tape::{Found, SetupRead, reader};
-use tape_writer::Put;
+use tape::{BadWord, Call, Found, Placed, Setup, reader};
+use tape_writer::PutError;
 
 fn is_b(side: Side) -> bool {
     match side {
@@ -29,64 +29,84 @@ fn byte(t: &[u8], at: usize) -> u8 {
 
 fn is_datagram(t: &[u8], f: Found) -> bool {
     match f {
-        Found::Datagram { at, len, next } => at == 56
-            && len == 5
-            && next == 16
-            && byte(t, 56) == 1
-            && byte(t, 60) == 5,
+        Ok(
+            Some(
+                Placed {
+                    call: Call::Datagram { at, len },
+                    next,
+                },
+            ),
+        ) => at == 56 && len == 5 && next == 16 && byte(t, 56) == 1 && byte(t, 60) == 5,
         _ => false,
     }
 }
 
 fn is_play(f: Found, b: bool, n: u32, after: usize) -> bool {
     match f {
-        Found::Play {
-            side,
-            samples,
-            next,
-        } => is_b(side) == b && samples == n && next == after,
+        Ok(
+            Some(
+                Placed {
+                    call: Call::Play { side, samples },
+                    next,
+                },
+            ),
+        ) => is_b(side) == b && samples == n && next == after,
         _ => false,
     }
 }
 
 fn is_reset(f: Found, b: bool, after: usize) -> bool {
     match f {
-        Found::Reset { side, next } => is_b(side) == b && next == after,
+        Ok(
+            Some(
+                Placed {
+                    call: Call::Reset { side },
+                    next,
+                },
+            ),
+        ) => is_b(side) == b && next == after,
         _ => false,
     }
 }
 
 fn is_set(f: Found, b: bool, after: usize) -> bool {
     match f {
-        Found::Set {
-            side,
-            settings: x,
-            next,
-        } => is_b(side) == b && same_settings(x, settings(b)) && next == after,
+        Ok(
+            Some(
+                Placed {
+                    call: Call::Set { side, settings: x },
+                    next,
+                },
+            ),
+        ) => is_b(side) == b && same_settings(x, settings(b)) && next == after,
         _ => false,
     }
 }
 
 fn is_probe(f: Found) -> bool {
     match f {
-        Found::Probe {
-            t1,
-            t2,
-            t3,
-            t4,
-            next,
-        } => t1 == 1 && t2 == 4294967298 && t3 == 18446744073709551615 && t4 == 0 && next == 39,
+        Ok(
+            Some(
+                Placed {
+                    call: Call::Probe { t1, t2, t3, t4 },
+                    next,
+                },
+            ),
+        ) => t1 == 1 && t2 == 4294967298 && t3 == 18446744073709551615 && t4 == 0 && next == 39,
         _ => false,
     }
 }
 
 fn is_one_way(f: Found) -> bool {
     match f {
-        Found::OneWay {
-            receive,
-            send,
-            next,
-        } => receive == 12884901892 && send == 5 && next == 44,
+        Ok(
+            Some(
+                Placed {
+                    call: Call::OneWay { receive, send },
+                    next,
+                },
+            ),
+        ) => receive == 12884901892 && send == 5 && next == 44,
         _ => false,
     }
 }
@@ -100,50 +120,58 @@ fn same_counts(k: DepthCounts) -> bool {
 
 fn is_depth(f: Found) -> bool {
     match f {
-        Found::Depth {
-            samples,
-            counts,
-            next,
-        } => samples == 4294967295 && same_counts(counts) && next == 54,
+        Ok(
+            Some(
+                Placed {
+                    call: Call::Depth { samples, counts },
+                    next,
+                },
+            ),
+        ) => samples == 4294967295 && same_counts(counts) && next == 54,
         _ => false,
     }
 }
 
 fn is_transmit(f: Found) -> bool {
     match f {
-        Found::TransmitDepth { samples, next } => samples == 7 && next == 56,
+        Ok(
+            Some(
+                Placed {
+                    call: Call::TransmitDepth { samples },
+                    next,
+                },
+            ),
+        ) => samples == 7 && next == 56,
         _ => false,
     }
 }
 
 fn is_end(f: Found) -> bool {
     match f {
-        Found::End => true,
+        Ok(None) => true,
         _ => false,
     }
 }
 
 fn is_bad(f: Found, place: usize) -> bool {
     match f {
-        Found::Bad(bad) => bad == place,
+        Err(bad) => bad.place == place,
         _ => false,
     }
 }
 
-fn is_setup(s: SetupRead) -> bool {
+fn is_setup(s: Result<Setup, BadWord>) -> bool {
     match s {
-        SetupRead::Found(x) => {
-            let a = x.a;
-            let b = x.b;
+        Ok(x) => {
             x.sizes.packet == 2
                 && x.sizes.max == 4
                 && x.sizes.height == 1
-                && a.top == 1
-                && a.range == 3
-                && b.top == 4
-                && b.range == 4294967295
+                && x.a.top == 1
+                && x.a.range == 3
+                && x.b.top == 4
+                && x.b.range == 4294967295
         }
-        SetupRead::Bad(_) => false,
+        Err(_) => false,
     }
 }
 
@@ -205,11 +233,11 @@ pub fn every_field(t: &mut [u8], tally: Tally) -> Tally {
     numbers(now, b"words of the small tape", less as u64, 21)
 }
 
-fn refused_at(p: Put) -> u64 {
+fn refused_at(p: Result<usize, PutError>) -> u64 {
     match p {
-        Put::Next(_) => 0,
-        Put::TooLarge(place) => place as u64,
-        Put::NoRoom => 2,
+        Ok(_) => 0,
+        Err(PutError::TooLarge { place }) => place as u64,
+        Err(PutError::NoRoom) => 2,
     }
 }
 
@@ -246,7 +274,7 @@ fn no_room(t: &mut [u8], tally: Tally) -> Tally {
     numbers(
         now,
         b"end in the target's last word",
-        after(tape_writer::put_end(t, 63)) as u64,
+        tape_writer::put_end(t, 63).unwrap_or(0) as u64,
         64,
     )
 }

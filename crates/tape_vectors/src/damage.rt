@@ -1,7 +1,7 @@
 // Damaged tapes, each with the place that is expected.
-use crate::report::{Tally, compared, number, text};
+use crate::report::{Tally, Verdict, bad, compared, number, text};
 use crate::sample::{every_call, small};
-use tape::{Checked, reader};
+use tape::reader;
 
 fn set_byte(t: &mut [u8], at: usize, b: u8) {
     if at < t.len() {
@@ -21,11 +21,11 @@ fn set_word(t: &mut [u8], place: usize, word: u32) {
 }
 
 // The verdict on the first n bytes.
-fn verdict(t: &[u8], n: usize) -> Checked {
+fn verdict(t: &[u8], n: usize) -> Verdict {
     if n <= t.len() {
-        return reader::check(&t[0..n]);
+        return reader::check(&t[..n]);
     }
-    Checked::Accepted
+    Ok(())
 }
 
 // The tape of every call with another word at a place, and so many bytes of it.
@@ -35,7 +35,7 @@ pub fn with_word(
     place: usize,
     word: u32,
     n: usize,
-    expected: Checked,
+    expected: Verdict,
 ) -> Tally {
     every_call(t);
     set_word(t, 57, 0);
@@ -51,7 +51,7 @@ pub fn with_word(
 }
 
 // The tape of every call with another byte.
-pub fn with_byte(t: &mut [u8], tally: Tally, at: usize, b: u8, expected: Checked) -> Tally {
+pub fn with_byte(t: &mut [u8], tally: Tally, at: usize, b: u8, expected: Verdict) -> Tally {
     every_call(t);
     set_byte(t, at, b);
     text(b"byte ");
@@ -69,7 +69,7 @@ fn with_bit(t: &mut [u8], tally: Tally, place: usize, word: u32, bit: u32) -> Ta
             place,
             std::num::wrapping_add_u32(word, 1u32 << bit),
             228,
-            Checked::Bad(place),
+            bad(place),
         );
     }
     tally
@@ -78,10 +78,8 @@ fn with_bit(t: &mut [u8], tally: Tally, place: usize, word: u32, bit: u32) -> Ta
 // A word with each bit of `from` up to `to` set, none of which has a name there: the word is bad.
 pub fn each_bit(t: &mut [u8], tally: Tally, place: usize, word: u32, from: u32, to: u32) -> Tally {
     let mut now = tally;
-    let mut bit = from;
-    while bit < to {
+    for bit in from..to {
         now = with_bit(t, now, place, word, bit);
-        bit += 1;
     }
     now
 }
@@ -91,22 +89,20 @@ fn cut(t: &mut [u8], tally: Tally, n: usize) -> Tally {
     text(b"small tape cut to ");
     number(n as u64);
     text(b" bytes");
-    compared(tally, verdict(t, n), Checked::Bad(n / 4))
+    compared(tally, verdict(t, n), bad(n / 4))
 }
 
 // The small tape cut at every byte: bad behind the last whole word.
 pub fn each_cut(t: &mut [u8], tally: Tally) -> Tally {
     let mut now = tally;
-    let mut n = 0;
-    while n < 84 {
+    for n in 0..84 {
         now = cut(t, now, n);
-        n += 1;
     }
     now
 }
 
 // The small tape, and bytes behind its end.
-pub fn behind_end(t: &mut [u8], tally: Tally, n: usize, expected: Checked) -> Tally {
+pub fn behind_end(t: &mut [u8], tally: Tally, n: usize, expected: Verdict) -> Tally {
     small(t);
     set_word(t, 21, 0);
     set_word(t, 22, 0);

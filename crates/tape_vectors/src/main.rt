@@ -7,8 +7,7 @@ mod report;
 mod sample;
 
 use crate::damage::{behind_end, each_bit, each_cut, with_byte, with_word};
-use crate::report::{Tally, number, text};
-use tape::Checked;
+use crate::report::{Tally, bad, number, text};
 
 // Every bit that has no name in the first word of the setup, of a datagram, a play and a reset.
 fn unknown_bits(t: &mut [u8], tally: Tally) -> Tally {
@@ -28,56 +27,56 @@ fn more_unknown_bits(t: &mut [u8], tally: Tally) -> Tally {
 
 // A clock word with both low bits, and each kind where the setup must stand.
 fn not_a_setup(t: &mut [u8], tally: Tally) -> Tally {
-    let now = with_word(t, tally, 39, 3221225475, 228, Checked::Bad(39));
-    let now = with_word(t, now, 0, 0, 228, Checked::Bad(0));
-    let now = with_word(t, now, 0, 536870912, 228, Checked::Bad(0));
-    with_word(t, now, 0, 1073741824, 228, Checked::Bad(0))
+    let now = with_word(t, tally, 39, 3221225475, 228, bad(39));
+    let now = with_word(t, now, 0, 0, 228, bad(0));
+    let now = with_word(t, now, 0, 536870912, 228, bad(0));
+    with_word(t, now, 0, 1073741824, 228, bad(0))
 }
 
 fn not_a_setup_either(t: &mut [u8], tally: Tally) -> Tally {
-    let now = with_word(t, tally, 0, 1610612736, 228, Checked::Bad(0));
-    let now = with_word(t, now, 0, 2147483648, 228, Checked::Bad(0));
-    let now = with_word(t, now, 0, 2684354560, 228, Checked::Bad(0));
-    with_word(t, now, 0, 3221225472, 228, Checked::Bad(0))
+    let now = with_word(t, tally, 0, 1610612736, 228, bad(0));
+    let now = with_word(t, now, 0, 2147483648, 228, bad(0));
+    let now = with_word(t, now, 0, 2684354560, 228, bad(0));
+    with_word(t, now, 0, 3221225472, 228, bad(0))
 }
 
 // A setup and an end among the calls.
 fn out_of_place(t: &mut [u8], tally: Tally) -> Tally {
-    let now = with_word(t, tally, 16, 3758096384, 228, Checked::Bad(16));
-    let now = with_word(t, now, 13, 0, 228, Checked::Bad(14));
-    let now = with_word(t, now, 16, 0, 228, Checked::Bad(17));
-    with_word(t, now, 55, 0, 228, Checked::Accepted)
+    let now = with_word(t, tally, 16, 3758096384, 228, bad(16));
+    let now = with_word(t, now, 13, 0, 228, bad(14));
+    let now = with_word(t, now, 16, 0, 228, bad(17));
+    with_word(t, now, 55, 0, 228, Ok(()))
 }
 
 // A call for the end, and lengths that do not fit what follows.
 fn run_out(t: &mut [u8], tally: Tally) -> Tally {
-    let now = with_word(t, tally, 56, 1610612736, 228, Checked::Bad(57));
-    let now = with_word(t, now, 56, 2684354560, 228, Checked::Bad(57));
-    let now = with_word(t, now, 54, 3221225473, 228, Checked::Bad(57));
-    with_word(t, now, 13, 536936447, 228, Checked::Bad(57))
+    let now = with_word(t, tally, 56, 1610612736, 228, bad(57));
+    let now = with_word(t, now, 56, 2684354560, 228, bad(57));
+    let now = with_word(t, now, 54, 3221225473, 228, bad(57));
+    with_word(t, now, 13, 536936447, 228, bad(57))
 }
 
 // Padding, and bytes of a datagram.
 fn padding(t: &mut [u8], tally: Tally) -> Tally {
-    let now = with_byte(t, tally, 61, 1, Checked::Bad(15));
-    let now = with_byte(t, now, 62, 1, Checked::Bad(15));
-    let now = with_byte(t, now, 63, 128, Checked::Bad(15));
-    with_byte(t, now, 60, 0, Checked::Accepted)
+    let now = with_byte(t, tally, 61, 1, bad(15));
+    let now = with_byte(t, now, 62, 1, bad(15));
+    let now = with_byte(t, now, 63, 128, bad(15));
+    with_byte(t, now, 60, 0, Ok(()))
 }
 
 // Lengths of a datagram, and words and parts of words behind the end.
 fn lengths(t: &mut [u8], tally: Tally) -> Tally {
-    let now = with_word(t, tally, 13, 536870921, 228, Checked::Bad(16));
-    let now = with_word(t, now, 13, 536870918, 228, Checked::Accepted);
-    let now = with_word(t, now, 57, 0, 232, Checked::Bad(57));
-    with_word(t, now, 57, 0, 229, Checked::Bad(57))
+    let now = with_word(t, tally, 13, 536870921, 228, bad(16));
+    let now = with_word(t, now, 13, 536870918, 228, Ok(()));
+    let now = with_word(t, now, 57, 0, 232, bad(57));
+    with_word(t, now, 57, 0, 229, bad(57))
 }
 
 fn ends(t: &mut [u8], tally: Tally) -> Tally {
-    let now = behind_end(t, tally, 84, Checked::Accepted);
-    let now = behind_end(t, now, 85, Checked::Bad(21));
-    let now = behind_end(t, now, 87, Checked::Bad(21));
-    behind_end(t, now, 88, Checked::Bad(21))
+    let now = behind_end(t, tally, 84, Ok(()));
+    let now = behind_end(t, now, 85, bad(21));
+    let now = behind_end(t, now, 87, bad(21));
+    behind_end(t, now, 88, bad(21))
 }
 
 fn last_line(tally: Tally) {

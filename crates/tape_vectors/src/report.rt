@@ -1,5 +1,5 @@
 // Lines of output, and how many of them were as expected.
-use tape::Checked;
+use tape::BadWord;
 
 // A file descriptor.
 const STDOUT_FILENO: i32 = 1;
@@ -10,6 +10,14 @@ pub struct Tally {
     pub equal: u64,
 }
 
+// The verdict on a tape.
+pub type Verdict = Result<(), BadWord>;
+
+// The verdict on a tape whose first bad word stands at a place.
+pub fn bad(place: usize) -> Verdict {
+    Err(BadWord { place })
+}
+
 pub fn text(t: &[u8]) {
     io::write_all(STDOUT_FILENO, t);
 }
@@ -18,52 +26,32 @@ pub fn number(n: u64) {
     io::print_decimal(STDOUT_FILENO, n);
 }
 
-fn verdict(v: Checked) {
+fn verdict(v: Verdict) {
     match v {
-        Checked::Accepted => text(b"accepted"),
-        Checked::Bad(place) => {
+        Ok(()) => text(b"accepted"),
+        Err(bad) => {
             text(b"11 ");
-            number(place as u64);
+            number(bad.place as u64);
         }
-    }
-}
-
-fn same(a: Checked, b: Checked) -> bool {
-    match a {
-        Checked::Accepted => match b {
-            Checked::Accepted => true,
-            Checked::Bad(_) => false,
-        },
-        Checked::Bad(p) => match b {
-            Checked::Accepted => false,
-            Checked::Bad(q) => p == q,
-        },
     }
 }
 
 // One vector more.
 pub fn counted(t: Tally, equal: bool) -> Tally {
-    if equal {
-        text(b"\n");
-        return Tally {
-            seen: std::num::wrapping_add_u64(t.seen, 1),
-            equal: std::num::wrapping_add_u64(t.equal, 1),
-        };
-    }
-    text(b" NOT EQUAL\n");
+    text(if equal { b"\n" } else { b" NOT EQUAL\n" });
     Tally {
-        seen: std::num::wrapping_add_u64(t.seen, 1),
-        equal: t.equal,
+        seen: t.seen.wrapping_add(1),
+        equal: t.equal.wrapping_add(u64::from(equal)),
     }
 }
 
 // What was found against what was expected.
-pub fn compared(t: Tally, found: Checked, expected: Checked) -> Tally {
+pub fn compared(t: Tally, found: Verdict, expected: Verdict) -> Tally {
     text(b": ");
     verdict(found);
     text(b", expected ");
     verdict(expected);
-    counted(t, same(found, expected))
+    counted(t, found == expected)
 }
 
 // A number that was found against the one that was expected.

@@ -1,15 +1,6 @@
 // Two tapes: one with every kind of call, of 57 words, and the small one of 21 words that docs/TAPE.md prints.
 use calls::{DepthCounts, Estimates, Settings, Side, Sizes};
-use tape_writer::Put;
-
-// The place after what was written.
-pub fn after(p: Put) -> usize {
-    match p {
-        Put::Next(next) => next,
-        Put::TooLarge(_) => 0,
-        Put::NoRoom => 0,
-    }
-}
+use tape_writer::PutError;
 
 fn small_sizes() -> Sizes {
     Sizes {
@@ -37,67 +28,69 @@ pub fn settings(adaptive: bool) -> Settings {
 }
 
 // Places 13 to 17: a datagram of 5 bytes and two plays.
-fn datagram_and_plays(t: &mut [u8], place: usize) -> usize {
+fn datagram_and_plays(t: &mut [u8], place: usize) -> Result<usize, PutError> {
     let bytes = [1u8, 2, 3, 4, 5];
-    let p = after(tape_writer::put_datagram(t, place, &bytes));
-    let p = after(tape_writer::put_play(t, p, Side::A, 2));
-    after(tape_writer::put_play(t, p, Side::B, 65535))
+    let p = tape_writer::put_datagram(t, place, &bytes)?;
+    let p = tape_writer::put_play(t, p, Side::A, 2)?;
+    tape_writer::put_play(t, p, Side::B, 65535)
 }
 
 // Places 18 to 29: two resets and two sets.
-fn resets_and_sets(t: &mut [u8], place: usize) -> usize {
-    let p = after(tape_writer::put_reset(t, place, Side::A));
-    let p = after(tape_writer::put_reset(t, p, Side::B));
-    let p = after(tape_writer::put_set(t, p, Side::A, settings(false)));
-    after(tape_writer::put_set(t, p, Side::B, settings(true)))
+fn resets_and_sets(t: &mut [u8], place: usize) -> Result<usize, PutError> {
+    let p = tape_writer::put_reset(t, place, Side::A)?;
+    let p = tape_writer::put_reset(t, p, Side::B)?;
+    let p = tape_writer::put_set(t, p, Side::A, settings(false))?;
+    tape_writer::put_set(t, p, Side::B, settings(true))
 }
 
-fn channel_calls(t: &mut [u8], place: usize) -> usize {
-    let p = datagram_and_plays(t, place);
+fn channel_calls(t: &mut [u8], place: usize) -> Result<usize, PutError> {
+    let p = datagram_and_plays(t, place)?;
     resets_and_sets(t, p)
 }
 
 // Places 30 to 55: a probe, a one-way, a depth, a transmit depth.
-fn clock_calls(t: &mut [u8], place: usize) -> usize {
+fn clock_calls(t: &mut [u8], place: usize) -> Result<usize, PutError> {
     let counts = DepthCounts {
         conceals: 1,
         late: 4294967296,
         overflow: 18446744073709551615,
         resyncs: 4294967297,
     };
-    let p = after(tape_writer::put_probe(t, place, 1, 4294967298, 18446744073709551615, 0));
-    let p = after(tape_writer::put_one_way(t, p, 12884901892, 5));
-    let p = after(tape_writer::put_depth(t, p, 4294967295, counts));
-    after(tape_writer::put_transmit_depth(t, p, 7))
+    let p = tape_writer::put_probe(t, place, 1, 4294967298, 18446744073709551615, 0)?;
+    let p = tape_writer::put_one_way(t, p, 12884901892, 5)?;
+    let p = tape_writer::put_depth(t, p, 4294967295, counts)?;
+    tape_writer::put_transmit_depth(t, p, 7)
 }
 
-// Every kind of call, in 228 bytes.
-pub fn every_call(t: &mut [u8]) -> usize {
-    let p = after(tape_writer::put_setup(
+fn every_call_put(t: &mut [u8]) -> Result<usize, PutError> {
+    let p = tape_writer::put_setup(
         t,
         0,
         small_sizes(),
         estimates(1, 2, 3),
         estimates(4, 5, 4294967295),
-    ));
-    let p = channel_calls(t, p);
-    let p = clock_calls(t, p);
-    after(tape_writer::put_end(t, p))
+    )?;
+    let p = channel_calls(t, p)?;
+    let p = clock_calls(t, p)?;
+    tape_writer::put_end(t, p)
 }
 
-// The small tape, in 84 bytes.
-pub fn small(t: &mut [u8]) -> usize {
+// Every kind of call, in 228 bytes. The place after them, or 0 where one is refused.
+pub fn every_call(t: &mut [u8]) -> usize {
+    every_call_put(t).unwrap_or(0)
+}
+
+fn small_put(t: &mut [u8]) -> Result<usize, PutError> {
     let bytes = [
         0x52u8, 0x53, 1, 1, 0, 0, 0, 7, 0, 0, 0, 0, 0, 0, 0, 0, 0xff, 0x7f, 0x01, 0x80,
     ];
-    let p = after(tape_writer::put_setup(
-        t,
-        0,
-        small_sizes(),
-        estimates(0, 0, 0),
-        estimates(0, 0, 0),
-    ));
-    let p = after(tape_writer::put_datagram(t, p, &bytes));
-    let p = after(tape_writer::put_play(t, p, Side::A, 2));
-    after(tape_writer::put_end(t, p))
+    let p = tape_writer::put_setup(t, 0, small_sizes(), estimates(0, 0, 0), estimates(0, 0, 0))?;
+    let p = tape_writer::put_datagram(t, p, &bytes)?;
+    let p = tape_writer::put_play(t, p, Side::A, 2)?;
+    tape_writer::put_end(t, p)
+}
+
+// The small tape, in 84 bytes, likewise.
+pub fn small(t: &mut [u8]) -> usize {
+    small_put(t).unwrap_or(0)
 }

@@ -1,25 +1,24 @@
 -- What a caller learns from an answer, and bytes that are written one part behind the other. Assumes nothing.
-use Rattle.std.proofs.Common.{◌≡◌, ℕ, ◌+◌, ◌<◌, ◌≤◌, leb, List, ◌++◌, length, arith, length-append, leb-false, leb-true}
+use Rattle.std.proofs.Common.{◌≡◌, ℕ, ◌+◌, ◌<◌, ◌≤◌, leb, List, ◌++◌, length, arith, length-append, leb-false, leb-true, le-leb, Option, Some, None, IsSome}
 use Rattle.model.specs.Bytes.{placed, written_into}
 use Rattle.model.proofs.BoolLaws.{by_test, clash}
 use Rattle.model.proofs.ListLaws.{placed_length}
 use Rattle.model.proofs.ByteParts.{placed_behind}
 use Rattle.text.specs.Promises.{Written}
-use Rattle.text.specs.declared.Put.TheVariants.{Next, NoRoom}
 
--- behind the answer Next
+-- behind the answer Some
 pub record Fitted (bytes : List ℕ) (at : ℕ) (entry exit : List ℕ) (next : ℕ) : Type 0 where
   pub room : at + length bytes ≤ length entry
   pub place : next ≡ at + length bytes
   pub target : exit ≡ placed at bytes entry
 
--- behind the answer NoRoom
+-- behind the answer None
 pub record DidNotFit (bytes : List ℕ) (at : ℕ) (entry exit : List ℕ) : Type 0 where
   pub short : length entry < at + length bytes
   pub unchanged : exit ≡ entry
 
 module _ {bytes : List ℕ} {at : ℕ} {entry exit : List ℕ} where
-  pub next_fitted : {next : ℕ} → Written bytes at entry exit (Next next) → Fitted bytes at entry exit next
+  pub next_fitted : {next : ℕ} → Written bytes at entry exit (Some next) → Fitted bytes at entry exit next
   unfolding written_into
   next_fitted w =
       by_test (leb (at + length bytes) (length entry))
@@ -30,7 +29,7 @@ module _ {bytes : List ℕ} {at : ℕ} {entry exit : List ℕ} where
       let answered = rw e at w.answered in
       clash (cc))
 
-  pub no_room_did_not_fit : Written bytes at entry exit NoRoom → DidNotFit bytes at entry exit
+  pub no_room_did_not_fit : Written bytes at entry exit None → DidNotFit bytes at entry exit
   unfolding written_into
   no_room_did_not_fit w =
       by_test (leb (at + length bytes) (length entry))
@@ -38,6 +37,15 @@ module _ {bytes : List ℕ} {at : ℕ} {entry exit : List ℕ} where
       let answered = rw e at w.answered in
       clash (cc))
       (λ e. record { short = leb-false (at + length bytes) (length entry) e; unchanged = rw e at w.target })
+
+-- what fits was written
+module _ {bytes : List ℕ} {at : ℕ} {entry exit : List ℕ} {answer : Option ℕ} (w : Written bytes at entry exit answer) where
+  pub some_answered : at + length bytes ≤ length entry → IsSome answer
+  unfolding written_into
+  some_answered fits = rw (w.answered, le-leb (at + length bytes) (length entry) fits)
+
+  pub answer_fitted : {next : ℕ} → answer ≡ Some next → Fitted bytes at entry exit next
+  answer_fitted e = next_fitted (rw e at w)
 
 -- two parts that fitted are one
 pub fitted_behind : {xs ys first middle last : List ℕ} {at next end : ℕ} → Fitted xs at first middle next → Fitted ys next middle last end → Fitted (xs ++ ys) at first last end

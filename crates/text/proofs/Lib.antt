@@ -1,4 +1,3 @@
 pub mod WrittenLaws
 pub mod FittedLaws
 pub mod DigitLaws
-pub mod SignedLaws

@@ -1,31 +1,21 @@
 -- Bytes written into a target: what a function promises that wrote them or found no room, and bytes written from the last to the first. Assumes nothing.
-use Rattle.std.proofs.Common.{◌≡◌, ℕ, suc, ◌+◌, ◌<◌, ◌≤◌, Bool, true, false, not, leb, List, [], ◌∷◌, ◌++◌, length, take, drop, set, sym, ap, ◌∙◌, append_assoc, add-zero, arith, length-append, length-set, take-append-drop, length-take, take-take, drop_at, le-leb, leb-false, leb-true}
+use Rattle.std.proofs.Common.{◌≡◌, ℕ, suc, ◌+◌, ◌<◌, ◌≤◌, true, leb, List, [], ◌∷◌, ◌++◌, length, take, drop, set, sym, ap, ◌∙◌, append_assoc, add-zero, arith, length-append, length-set, take-append-drop, length-take, take-take, drop_at, le-leb, Option, Some, None}
 use lib.Seq.{set_split, take-append-le}
-use borrow.Author.Tests.{not-true, not-false, lt-leb}
+use borrow.Author.Tests.{lt-leb}
 use Rattle.model.specs.Bytes.{placed, written_into}
 use Rattle.model.proofs.ByteParts.{placed_behind}
 use Rattle.text.specs.Promises.{Written}
-use Rattle.text.specs.declared.Put.{Put}
-use Rattle.text.specs.declared.Put.TheVariants.{Next, NoRoom}
 
 -- ---- what is promised
 
--- what a test for room says, as the code makes it
-module _ (a b : ℕ) (r : Bool) (tested : r ≡ leb a b) where
-  pub room : not r ≡ false → a ≤ b
-  room e = leb-true a b (sym tested ∙ not-false r e)
-
-  pub no_room : not r ≡ true → b < a
-  no_room e = leb-false a b (sym tested ∙ not-true r e)
-
 module _ (at size : ℕ) {bytes entry : List ℕ} (long : length bytes ≡ size) where
-  pub written : {exit : List ℕ} → at + size ≤ length entry → exit ≡ placed at bytes entry → Written bytes at entry exit (Next (at + size))
+  pub written : {exit : List ℕ} → at + size ≤ length entry → exit ≡ placed at bytes entry → Written bytes at entry exit (Some (at + size))
   unfolding written_into
   written fits e =
       let test = le-leb (at + size) (length entry) fits in
       record { answered = rw (long, test); target = rw (long, test) e }
 
-  pub not_written : length entry < at + size → Written bytes at entry entry NoRoom
+  pub not_written : length entry < at + size → Written bytes at entry entry None
   unfolding written_into
   not_written short =
       let test = lt-leb (at + size) (length entry) short in
@@ -59,10 +49,10 @@ byte_placed at b target inside =
     sym (none_placed at (set target at b)) ∙ (rw place at (last_placed_first at [] b target (omega arith)))
 
 -- a byte was written, and then the others behind it, where there is room for all
-pub written_behind : {exit : List ℕ} {answer : Put} (at b : ℕ) (xs entry : List ℕ) → at + suc (length xs) ≤ length entry
+pub written_behind : {exit : List ℕ} {answer : Option ℕ} (at b : ℕ) (xs entry : List ℕ) → at + suc (length xs) ≤ length entry
     → Written xs (at + 1) (set entry at b) exit answer → Written (b ∷ xs) at entry exit answer
 unfolding written_into
-written_behind at b xs entry fits w = record { answered = rw all ((rw others at w.answered) ∙ ap Next (omega arith)); target = rw all ((rw others at w.target) ∙ together) }
+written_behind at b xs entry fits w = record { answered = rw all ((rw others at w.answered) ∙ ap Some (omega arith)); target = rw all ((rw others at w.target) ∙ together) }
   where
     others : leb (at + 1 + length xs) (length (set entry at b)) ≡ true
     others = le-leb (at + 1 + length xs) (length (set entry at b)) (simp length-set (omega arith))

@@ -2,73 +2,50 @@
 // Each number is written up to the end of 24 dots, so that it just fits, and then one place later, where it is one byte too long.
 #![tactic(auto)]
 
-use text::{Put, put_byte, put_decimal, put_hex, put_signed};
-
-// A file descriptor.
-const STDOUT_FILENO: i32 = 1;
+use std::io;
+use text::{put_byte, put_decimal, put_hex, put_signed};
 
 const SIZE: usize = 24;
 
-// Whether the answer is the end, and the target is as expected.
-fn fitted(answer: Put, out: &[u8], expected: &[u8]) -> bool {
-    let Put::Next(next) = answer else {
+// Whether what is put at a place ends where the target ends and is as expected, and has no room one place later, where the
+// target stays all dots.
+fn just_fits<F: Fn(&mut [u8], usize) -> Option<usize>>(put: F, at: usize, expected: &[u8]) -> bool
+    requires { F.IsAlwaysCallable put }
+{
+    if at >= SIZE {
         return false;
-    };
-    next == SIZE && check::same(out, expected)
+    }
+    let mut out = [b'.'; SIZE];
+    let first = put(&mut out, at);
+    let mut short = [b'.'; SIZE];
+    let second = put(&mut short, at + 1);
+    first == Some(SIZE) && out.as_slice() == expected && refused(second, &short)
 }
 
 // Whether the answer is that there is no room, and the target is all dots.
-fn refused(answer: Put, out: &[u8]) -> bool {
-    let Put::Next(_) = answer else {
-        return check::same(out, b"........................");
-    };
-    false
+fn refused(answer: Option<usize>, out: &[u8]) -> bool {
+    answer.is_none() && out == [b'.'; SIZE].as_slice()
 }
 
 // The place behind, or one far outside every target.
-fn behind(answer: Put) -> usize {
-    let Put::Next(next) = answer else {
-        return 0xffff_ffff_ffff_ffff;
-    };
-    next
+fn behind(answer: Option<usize>) -> usize {
+    answer.unwrap_or(usize::MAX)
 }
 
 fn decimal(n: u64, at: usize, expected: &[u8]) -> bool {
-    if at >= SIZE {
-        return false;
-    }
-    let mut out = [b'.'; 24];
-    let first = put_decimal(&mut out, at, n);
-    let mut short = [b'.'; 24];
-    let second = put_decimal(&mut short, at + 1, n);
-    fitted(first, &out, expected) && refused(second, &short)
+    just_fits(|out, at| put_decimal(out, at, n), at, expected)
 }
 
 fn signed(n: i64, at: usize, expected: &[u8]) -> bool {
-    if at >= SIZE {
-        return false;
-    }
-    let mut out = [b'.'; 24];
-    let first = put_signed(&mut out, at, n);
-    let mut short = [b'.'; 24];
-    let second = put_signed(&mut short, at + 1, n);
-    fitted(first, &out, expected) && refused(second, &short)
+    just_fits(|out, at| put_signed(out, at, n), at, expected)
 }
 
 fn hex(bits: u32, expected: &[u8]) -> bool {
-    let mut out = [b'.'; 24];
-    let first = put_hex(&mut out, 16, bits);
-    let mut short = [b'.'; 24];
-    let second = put_hex(&mut short, 17, bits);
-    fitted(first, &out, expected) && refused(second, &short)
+    just_fits(|out, at| put_hex(out, at, bits), 16, expected)
 }
 
 fn byte(b: u8, expected: &[u8]) -> bool {
-    let mut out = [b'.'; 24];
-    let first = put_byte(&mut out, 23, b);
-    let mut short = [b'.'; 24];
-    let second = put_byte(&mut short, 24, b);
-    fitted(first, &out, expected) && refused(second, &short)
+    just_fits(|out, at| put_byte(out, at, b), 23, expected)
 }
 
 fn decimals() -> bool {
@@ -108,8 +85,8 @@ fn bytes() -> bool {
 
 // A place outside the target, whose sum with a length would not be a number of 64 bits.
 fn far_places() -> bool {
-    let far = 0xffff_ffff_ffff_ffff;
-    let mut out = [b'.'; 24];
+    let far = usize::MAX;
+    let mut out = [b'.'; SIZE];
     let first = put_byte(&mut out, far, b'P');
     let second = put_decimal(&mut out, far, 0);
     let third = put_signed(&mut out, far, -1);
@@ -119,7 +96,7 @@ fn far_places() -> bool {
 
 // A line of words, each part at the place behind the last: what lies behind the line stays.
 fn line() -> bool {
-    let mut out = [b'.'; 24];
+    let mut out = [b'.'; SIZE];
     let mut at = behind(put_byte(&mut out, 0, b'P'));
     at = behind(put_byte(&mut out, at, b' '));
     at = behind(put_decimal(&mut out, at, 160));
@@ -128,23 +105,18 @@ fn line() -> bool {
     at = behind(put_byte(&mut out, at, b' '));
     at = behind(put_hex(&mut out, at, 0x3f80_0000));
     at = behind(put_byte(&mut out, at, b'\n'));
-    at == 18 && check::same(&out, b"P 160 -5 3f800000\n......")
+    at == 18 && out == *b"P 160 -5 3f800000\n......"
 }
 
-fn report(group: &[u8], ok: bool) {
-    io::write_all(STDOUT_FILENO, group);
-    if ok {
-        io::write_all(STDOUT_FILENO, b": ok\n");
-    } else {
-        io::write_all(STDOUT_FILENO, b": DIFFERS\n");
-    }
+fn report(rt: &impl Print, group: &str, ok: bool) -> io::Result<()> {
+    println!(rt; "{group}: {}", if ok { "ok" } else { "DIFFERS" })
 }
 
-fn main() {
-    report(b"decimal", decimals());
-    report(b"signed", signed_ones());
-    report(b"hexadecimal", patterns());
-    report(b"byte", bytes());
-    report(b"far places", far_places());
-    report(b"line", line());
+fn main(rt: HostRuntime) -> io::Result<()> {
+    report(&rt, "decimal", decimals())?;
+    report(&rt, "signed", signed_ones())?;
+    report(&rt, "hexadecimal", patterns())?;
+    report(&rt, "byte", bytes())?;
+    report(&rt, "far places", far_places())?;
+    report(&rt, "line", line())
 }

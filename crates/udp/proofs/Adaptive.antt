@@ -1,6 +1,5 @@
 -- The display after a row: it stays with adaptive off or with no finite value, else the estimates move toward the row's levels. Assumes nothing.
-use Rattle.std.proofs.Common.{◌≡◌, ℕ, ◌+◌, ◌-◌, ◌≤◌, true, false, eqb, List, ◌++◌, length, take, drop, ap, ◌∙◌, arith, length-drop, take-append-drop, length-take-le, take_all}
-use mathlib.Core.Option.{none, some}
+use Rattle.std.proofs.Common.{◌≡◌, ℕ, None, Some, ◌+◌, ◌-◌, ◌≤◌, true, false, eqb, List, ◌++◌, length, take, drop, ap, ◌∙◌, arith, length-drop, take-append-drop, length-take-le, take_all}
 use lib.Seq.{take-append-le}
 use lib.Ieee.{Float}
 use Rattle.model.specs.Scaling.{Display, finite_values, row_floor, row_top, estimates_toward, display_after}
@@ -15,14 +14,14 @@ unfolding display_after
 stays_with_adaptive_off row d off = rw off
 
 module _ (row : List Float) (d : Display) (on : d.adaptive ≡ true) where
-  pub stays_with_none_finite : row_estimate row ≡ none → d ≡ display_after row d
+  pub stays_with_none_finite : row_estimate row ≡ None → d ≡ display_after row d
   unfolding display_after row_estimate
   stays_with_none_finite is =
       by_test (eqb (length (finite_values row)) 0)
       (λ none-finite. rw (on, none-finite))
       (λ some-finite. let e = rw some-finite at is in clash (cc))
 
-  pub moves_toward_levels : (levels : FloorAndTop) → row_estimate row ≡ some levels → estimates_toward levels.floor levels.top d ≡ display_after row d
+  pub moves_toward_levels : (levels : FloorAndTop) → row_estimate row ≡ Some levels → estimates_toward levels.floor levels.top d ≡ display_after row d
   unfolding display_after row_estimate
   moves_toward_levels levels is =
       by_test (eqb (length (finite_values row)) 0)

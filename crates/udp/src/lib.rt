@@ -15,8 +15,7 @@ ghost use Rattle.udp.specs.Views.{counts_of, display_of};
 ghost use Rattle.udp.specs.Displays.{RowAt, AdaptiveUpdated};
 
 use jitter_asking::counter_held;
-use spectrum_utils::{FloorAndTop, RowEstimate};
-use std::num::wrapping_add_u32;
+use spectrum_utils::FloorAndTop;
 
 // How fast the estimates follow a row.
 const ADAPTIVE_NORMALIZATION_ALPHA: f32 = 0.05;
@@ -29,20 +28,13 @@ const ADAPTIVE_MIN_RANGE_DB: f32 = 30.0;
 
 const ADAPTIVE_MAX_RANGE_DB: f32 = 100.0;
 
-// The last sequence of a stream, if there was one.
-#[derive(Clone, Copy)]
-pub enum LastSequence {
-    Unknown,
-    Known(u32),
-}
-
-// The sequence counts of one stream.
-#[derive(Clone, Copy)]
+// The sequence counts of one stream, and its last sequence, if there was one.
+#[derive(Clone, Copy, PartialEq, Eq, Debug)]
 pub struct StreamCounts {
     pub packets: u64,
     pub dropped: u64,
     pub late: u64,
-    pub last: LastSequence,
+    pub last: Option<u32>,
 }
 
 impl StreamCounts {
@@ -54,7 +46,7 @@ impl StreamCounts {
             packets: 0,
             dropped: 0,
             late: 0,
-            last: LastSequence::Unknown,
+            last: None,
         }
     }
 
@@ -62,13 +54,9 @@ impl StreamCounts {
     pub fn could_be_held(self, calls: u64) -> bool
         ensures { result ≡ stream_held (calls * most_calls) (counts_of self) }
     {
-        if !counter_held(self.packets, calls) {
-            return false;
-        }
-        if !counter_held(self.dropped, calls) {
-            return false;
-        }
-        counter_held(self.late, calls)
+        counter_held(self.packets, calls)
+            && counter_held(self.dropped, calls)
+            && counter_held(self.late, calls)
     }
 }
 
@@ -85,39 +73,28 @@ pub fn update_sequence_stats(counts: StreamCounts, sequence: u32) -> StreamCount
     requires { CountsFit (counts_of counts) }
     ensures { counts_of result ≡ counted sequence (counts_of counts) }
 {
-    let last = counts.last;
-    let packets = counts.packets + 1;
-    let LastSequence::Known(previous) = last else {
-        return StreamCounts {
-            packets,
-            dropped: counts.dropped,
-            late: counts.late,
-            last: LastSequence::Known(sequence),
-        };
+    let after = StreamCounts {
+        packets: counts.packets + 1,
+        last: Some(sequence),
+        ..counts
     };
-    let expected = wrapping_add_u32(previous, 1);
+    let Some(previous) = counts.last else {
+        return after;
+    };
+    let expected = previous.wrapping_add(1);
     if sequence > expected {
         return StreamCounts {
-            packets,
             dropped: counts.dropped + ((sequence - expected) as u64),
-            late: counts.late,
-            last: LastSequence::Known(sequence),
+            ..after
         };
     }
     if sequence < expected {
         return StreamCounts {
-            packets,
-            dropped: counts.dropped,
             late: counts.late + 1,
-            last: LastSequence::Known(sequence),
+            ..after
         };
     }
-    StreamCounts {
-        packets,
-        dropped: counts.dropped,
-        late: counts.late,
-        last: LastSequence::Known(sequence),
-    }
+    after
 }
 
 // Smooths a row into the running one: copied on a length change or at a weight of 1, else each bin moves toward the
@@ -145,10 +122,8 @@ fn move_toward(rows: &mut [f32], bins: usize, smooth: usize, w: f32)
     requires { Behind bins smooth bins (length rows.old) }
     ensures { rows.new ≡ zipped_at (smoothed w) smooth bins rows.old }
 {
-    let mut i = 0;
-    while i < bins {
+    for i in 0..bins {
         rows[smooth + i] = rows[smooth + i] + w * (rows[i] - rows[smooth + i]);
-        i += 1;
     }
 }
 
@@ -182,7 +157,7 @@ pub fn update_adaptive_waterfall_display(
     }
     let room = work - row_db;
     let estimate = spectrum_utils::estimate_row_floor_and_top_db(&mut rows[row_db..], bins, room);
-    let RowEstimate::Levels(levels) = estimate else {
+    let Some(levels) = estimate else {
         return display;
     };
     estimates_toward(display, levels)
@@ -207,14 +182,10 @@ fn estimates_toward(display: Display, levels: FloorAndTop) -> Display
         ADAPTIVE_MAX_RANGE_DB,
     );
     Display {
-        adaptive: display.adaptive,
-        top: display.top,
-        range: display.range,
-        zoom: display.zoom,
-        smoothing: display.smoothing,
         top_estimate: top,
         floor_estimate: floor,
         range_estimate: range,
+        ..display
     }
 }
 

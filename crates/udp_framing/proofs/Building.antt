@@ -6,7 +6,8 @@ use Rattle.model.specs.Bytes.{big_endian_bytes, placed, written_into}
 use Rattle.model.specs.Framing.{magic_number, time_header, request_type, response_type, TimeRequest, TimeResponse, build_request, build_response}
 use Rattle.model.proofs.ByteParts.{Front}
 use Rattle.udp_framing.specs.Promises.{header_bytes, BuiltAs}
-use Rattle.udp_framing.specs.declared.Built.TheVariants.{Written, Refused}
+use Rattle.std.specs.Prelude.{Ok, Err}
+use Rattle.calls.specs.declared.Refusal.TheVariants.{NoRoom}
 
 pub header_of_fields : (type sequence timestamp : ℕ) → type < 256
     → (((big_endian_bytes 2 magic_number ++ big_endian_bytes 1 2) ++ big_endian_bytes 1 type) ++ big_endian_bytes 4 sequence) ++ big_endian_bytes 8 timestamp
@@ -39,8 +40,8 @@ module _ (size : ℕ) (packet entry : List ℕ) (long : length packet ≡ size) 
   unfolding written_into
   all_written fits = rw (le-leb (0 + length packet) (length entry) (omega arith))
 
-  pub built_refused : length entry < size → BuiltAs packet entry entry Refused
+  pub built_refused : length entry < size → BuiltAs packet entry entry (Err NoRoom)
   built_refused short = record { answered = rw (nothing_written short); bytes = rw (nothing_written short) }
 
-  pub built_written : {exit : List ℕ} → size ≤ length entry → exit ≡ placed 0 packet entry → BuiltAs packet entry exit (Written size)
+  pub built_written : {exit : List ℕ} → size ≤ length entry → exit ≡ placed 0 packet entry → BuiltAs packet entry exit (Ok size)
   built_written fits e = record { answered = rw (all_written fits, long); bytes = rw (all_written fits) e }

@@ -1,14 +1,12 @@
 -- What the functions promise that have more than one thing to say. Assumes nothing.
-use Rattle.std.specs.Prelude.{◌≡◌, ℕ, ◌+◌, ◌*◌, ◌^◌, ◌≤◌, List, ◌∷◌, ◌++◌, length}
+use Rattle.std.specs.Prelude.{◌≡◌, ℕ, List, ◌∷◌, ◌++◌, length, Result}
 use Rattle.std.proofs.Math.Option.{Option, none, some}
 use Rattle.model.specs.Bytes.{big_endian_bytes, written_into}
 use Rattle.model.specs.Framing.{magic_number}
 use Rattle.model.specs.Clock.{probe_offset, probe_round_trip}
-use Rattle.udp_framing.specs.declared.Built.{Built}
+use Rattle.calls.specs.declared.Refusal.{Refusal}
 use Rattle.udp_framing.specs.declared.OffsetRtt.{OffsetRtt}
-use Rattle.udp_framing.specs.declared.words.Sum.{Sum}
-use Rattle.udp_framing.specs.declared.words.Difference.{Difference}
-use Rattle.udp_framing.specs.Views.{Answer, accepted, refused, built_answer, sum_of}
+use Rattle.udp_framing.specs.Views.{Answer, accepted, refused, built_answer}
 
 -- ---- packets that are built
 
@@ -28,19 +26,11 @@ or_unchanged entry none = entry
 or_unchanged entry (some bytes) = bytes
 
 -- a packet was built at the front of a target, or refused and the target left as it was
-pub record BuiltAs (packet entry exit : List ℕ) (answer : Built) : Type 0 where
+pub record BuiltAs (packet entry exit : List ℕ) (answer : Result ℕ Refusal) : Type 0 where
   pub answered : built_answer answer ≡ size_or_refusal (length packet) (written_into 0 packet entry)
   pub bytes : exit ≡ or_unchanged entry (written_into 0 packet entry)
 
 -- ---- the clock
-
-pub record Added (a b : ℕ) (r : Sum) : Type 0 where
-  pub one : r.carry ≤ 1
-  pub whole : sum_of r ≡ a + b
-
-pub record Subtracted (a b : ℕ) (r : Difference) : Type 0 where
-  pub one : r.borrow ≤ 1
-  pub whole : a + r.borrow * 2 ^ 64 ≡ b + r.low
 
 -- what the four times of a probe come to
 pub record Measured (t1 t2 t3 t4 : ℕ) (r : OffsetRtt) : Type 0 where

@@ -1,19 +1,14 @@
 -- What the crate's values stand for: the model's header, times and time packets, sums, and the numbers of the refusals. Assumes nothing.
-use Rattle.std.specs.Prelude.{ℕ, ◌+◌, ◌*◌, ◌^◌}
-use Rattle.std.proofs.Math.Option.{Option, none, some}
+use Rattle.std.specs.Prelude.{ℕ, ◌+◌, ◌*◌, ◌^◌, Bool, Option, None, Some, Result, Ok, Err}
+use Rattle.std.specs.Int.{from_bool}
+use Rattle.std.proofs.Math.Option as Maybe
+use Rattle.std.proofs.Math.Option.{none, some}
 use Rattle.model.specs.Framing.{Header, TimeRequest, TimeResponse}
 use Rattle.udp_framing.specs.declared.MediaHeader.{MediaHeader}
-use Rattle.udp_framing.specs.declared.ParsedHeader.{ParsedHeader}
-use Rattle.udp_framing.specs.declared.ParsedHeader.TheVariants as Parsed
-use Rattle.udp_framing.specs.declared.SendWall.{SendWall}
-use Rattle.udp_framing.specs.declared.SendWall.TheVariants as Wall
-use Rattle.udp_framing.specs.declared.Built.{Built}
-use Rattle.udp_framing.specs.declared.Built.TheVariants as Build
 use Rattle.udp_framing.specs.declared.TimeSyncRequest.{TimeSyncRequest}
-use Rattle.udp_framing.specs.declared.TimeSyncRequest.TheVariants as Request
 use Rattle.udp_framing.specs.declared.TimeSyncResponse.{TimeSyncResponse}
-use Rattle.udp_framing.specs.declared.TimeSyncResponse.TheVariants as Response
-use Rattle.udp_framing.specs.declared.words.Sum.{Sum}
+use Rattle.calls.specs.declared.Refusal.{Refusal}
+use Rattle.calls.specs.Refusals.{refusal_number}
 
 -- ---- what may be missing
 
@@ -28,14 +23,14 @@ header_of h =
     }
 
 -- the header that was found, if the datagram has one
-abbrev pub header_found : ParsedHeader → Option Header
-header_found (Parsed.Header h) = some (header_of h)
-header_found Parsed.TooShort = none
+abbrev pub header_found : Option MediaHeader → Maybe.Option Header
+header_found (Some h) = some (header_of h)
+header_found None = none
 
 -- the send time that was found, if the datagram has one
-abbrev pub send_time_found : SendWall → Option ℕ
-send_time_found (Wall.Ns n) = some n
-send_time_found Wall.Absent = none
+abbrev pub send_time_found : Option ℕ → Maybe.Option ℕ
+send_time_found (Some n) = some n
+send_time_found None = none
 
 -- ---- what may be refused
 
@@ -45,27 +40,29 @@ pub data Answer (A : Type 0) : Type 0 where
   refused : ℕ → Answer A
 
 -- a value, or where there is none the refusal of that number
-abbrev pub or_refusal : {A : Type 0} → ℕ → Option A → Answer A
+abbrev pub or_refusal : {A : Type 0} → ℕ → Maybe.Option A → Answer A
 or_refusal number none = refused number
 or_refusal number (some a) = accepted a
 
--- the number of bytes that were written, or refusal 2
-abbrev pub built_answer : Built → Answer ℕ
-built_answer (Build.Written n) = accepted n
-built_answer Build.Refused = refused 2
+-- what a result's value stands for, or its refusal's number
+abbrev pub answer_of : {A B : Type 0} → (A → B) → Result A Refusal → Answer B
+answer_of f (Ok a) = accepted (f a)
+answer_of f (Err e) = refused (refusal_number e)
 
--- the probe's number and t1, or refusal 10
-abbrev pub request_answer : TimeSyncRequest → Answer TimeRequest
-request_answer (Request.Numbers probe t1) = accepted (record { probe = probe; t1 = t1 })
-request_answer Request.Refused = refused 10
+-- the number of bytes that were written
+abbrev pub built_answer : Result ℕ Refusal → Answer ℕ
+built_answer r = answer_of (λ n. n) r
 
--- the probe's number and three times, or refusal 10
-abbrev pub response_answer : TimeSyncResponse → Answer TimeResponse
-response_answer (Response.Numbers probe t1 t2 t3) = accepted (record { probe = probe; t1 = t1; t2 = t2; t3 = t3 })
-response_answer Response.Refused = refused 10
+-- the probe's number and t1
+abbrev pub request_answer : Result TimeSyncRequest Refusal → Answer TimeRequest
+request_answer r = answer_of (λ q. record { probe = q.probe_id; t1 = q.t1_ns }) r
+
+-- the probe's number and three times
+abbrev pub response_answer : Result TimeSyncResponse Refusal → Answer TimeResponse
+response_answer r = answer_of (λ q. record { probe = q.probe_id; t1 = q.t1_ns; t2 = q.t2_ns; t3 = q.t3_ns }) r
 
 -- ---- words
 
--- the number that a carry and a low word are
-abbrev pub sum_of : Sum → ℕ
-sum_of s = s.carry * 2 ^ 64 + s.low
+-- the number that a low word and a carry are
+abbrev pub sum_of : ℕ × Bool → ℕ
+sum_of s = from_bool s.1 * 2 ^ 64 + s.0

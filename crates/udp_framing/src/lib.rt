@@ -11,11 +11,10 @@ ghost use Rattle.model.specs.Framing.{parse_header, valid_header, audio_start, a
 ghost use Rattle.udp_framing.specs.Views.{header_of, header_found, send_time_found, or_refusal, request_answer, response_answer};
 ghost use Rattle.udp_framing.specs.Promises.{header_bytes, BuiltAs, Measured};
 
-use big_endian::{
-    read_u8, read_u16, read_u32, read_u64, write_u8, write_u16, write_u32, write_u64,
-};
+use big_endian::BigEndian;
+use calls::Refusal;
 use std::num::wrapping_sub_u64;
-use words::{add_with_carry, as_signed, half_difference};
+use words::{as_signed, half_difference};
 
 // "RS", at the front of each datagram.
 pub const MAGIC: u16 = 0x5253;
@@ -46,7 +45,7 @@ pub const HEADER_LEN: usize = 16;
 pub const AUDIO_SEND_WALL_NS_LEN: usize = 8;
 
 // Bytes 0 and 1: magic; 2: version; 3: stream type; 4 to 7: sequence; 8 to 15: timestamp.
-#[derive(Clone, Copy)]
+#[derive(Clone, Copy, PartialEq, Eq, Debug)]
 pub struct MediaHeader {
     pub magic: u16,
     pub version: u8,
@@ -55,31 +54,19 @@ pub struct MediaHeader {
     pub timestamp: u64,
 }
 
-#[derive(Clone, Copy)]
-pub enum ParsedHeader {
-    Header(MediaHeader),
-    // Under 16 bytes.
-    TooShort,
-}
-
-// The header at the front of a datagram. Its fields are not judged: see is_valid_header.
-pub fn parse_media_header(packet: &[u8]) -> ParsedHeader
+// The header at the front of a datagram of 16 bytes or more. Its fields are not judged: see is_valid_header.
+pub fn parse_media_header(packet: &[u8]) -> Option<MediaHeader>
     ensures { header_found result ≡ parse_header packet.now }
 {
     if packet.len() < HEADER_LEN {
-        return ParsedHeader::TooShort;
+        return None;
     }
-    let magic = read_u16(packet, 0);
-    let version = read_u8(packet, 2);
-    let stream_type = read_u8(packet, 3);
-    let sequence = read_u32(packet, 4);
-    let timestamp = read_u64(packet, 8);
-    ParsedHeader::Header(MediaHeader {
-        magic,
-        version,
-        stream_type,
-        sequence,
-        timestamp,
+    Some(MediaHeader {
+        magic: u16::read_from(packet, 0),
+        version: u8::read_from(packet, 2),
+        stream_type: u8::read_from(packet, 3),
+        sequence: u32::read_from(packet, 4),
+        timestamp: u64::read_from(packet, 8),
     })
 }
 
@@ -87,13 +74,7 @@ pub fn parse_media_header(packet: &[u8]) -> ParsedHeader
 pub fn is_valid_header(header: MediaHeader) -> bool
     ensures { result ≡ valid_header (header_of header) }
 {
-    if header.magic != MAGIC {
-        return false;
-    }
-    if header.version < 1 {
-        return false;
-    }
-    header.version <= VERSION
+    header.magic == MAGIC && header.version >= 1 && header.version <= VERSION
 }
 
 // Where the samples of an audio datagram of that version begin.
@@ -107,25 +88,15 @@ pub fn audio_samples_offset(version: u8) -> usize
     }
 }
 
-#[derive(Clone, Copy)]
-pub enum SendWall {
-    // Nanoseconds of the server's clock.
-    Ns(u64),
-    // Version 1, or a datagram that is too short.
-    Absent,
-}
-
-// The server's send time in an audio datagram.
-pub fn audio_send_wall_ns(header: MediaHeader, packet: &[u8]) -> SendWall
+// The server's send time in an audio datagram, in nanoseconds of its clock. Version 1 has none, nor has a datagram that
+// is too short.
+pub fn audio_send_wall_ns(header: MediaHeader, packet: &[u8]) -> Option<u64>
     ensures { send_time_found result ≡ audio_send_time (header_of header) packet.now }
 {
-    if header.version < 2 {
-        return SendWall::Absent;
+    if header.version < 2 || packet.len() < HEADER_LEN + AUDIO_SEND_WALL_NS_LEN {
+        return None;
     }
-    if packet.len() < HEADER_LEN + AUDIO_SEND_WALL_NS_LEN {
-        return SendWall::Absent;
-    }
-    SendWall::Ns(read_u64(packet, HEADER_LEN))
+    Some(u64::read_from(packet, HEADER_LEN))
 }
 
 // Writes a header of the version that is built at the front of the target.
@@ -133,118 +104,109 @@ fn push_header(target: &mut [u8], stream_type: u8, sequence: u32, timestamp: u64
     requires { 16 ≤ length target.old }
     ensures { target.new ≡ placed 0 (header_bytes stream_type sequence timestamp) target.old }
 {
-    write_u16(target, 0, MAGIC);
-    write_u8(target, 2, VERSION);
-    write_u8(target, 3, stream_type);
-    write_u32(target, 4, sequence);
-    write_u64(target, 8, timestamp);
+    MAGIC.write_to(target, 0);
+    VERSION.write_to(target, 2);
+    stream_type.write_to(target, 3);
+    sequence.write_to(target, 4);
+    timestamp.write_to(target, 8);
 }
 
-#[derive(Clone, Copy)]
-pub enum Built {
-    // The number of bytes, at the front of the target.
-    Written(usize),
-    // Refusal 2: the target is too short, and nothing was written.
-    Refused,
-}
-
-// Builds a time-sync request of 24 bytes, which carries the client's send time.
-pub fn build_time_sync_request(target: &mut [u8], probe_id: u32, t1_ns: u64) -> Built
+// Builds a time-sync request of 24 bytes, which carries the client's send time, at the front of the target. The answer
+// is the number of bytes. Where the target is too short, nothing is written.
+pub fn build_time_sync_request(
+    target: &mut [u8],
+    probe_id: u32,
+    t1_ns: u64,
+) -> Result<usize, Refusal>
     ensures { BuiltAs (build_request (record { probe = probe_id; t1 = t1_ns })) target.old target.new result }
 {
     if target.len() < HEADER_LEN + 8 {
-        return Built::Refused;
+        return Err(Refusal::NoRoom);
     }
     push_header(target, STREAM_TYPE_TIME_SYNC_REQUEST, probe_id, 0);
-    write_u64(target, 16, t1_ns);
-    Built::Written(24)
+    t1_ns.write_to(target, 16);
+    Ok(24)
 }
 
-#[derive(Clone, Copy)]
-pub enum TimeSyncRequest {
-    Numbers { probe_id: u32, t1_ns: u64 },
-    // Refusal 10: another type, or under 24 bytes.
-    Refused,
+#[derive(Clone, Copy, PartialEq, Eq, Debug)]
+pub struct TimeSyncRequest {
+    pub probe_id: u32,
+    pub t1_ns: u64,
 }
 
-// The numbers of a time-sync request. Its magic and version are not judged.
-pub fn parse_time_sync_request(packet: &[u8]) -> TimeSyncRequest
+// The numbers of a time-sync request. Another type is refused, and so is a packet under 24 bytes. Magic and version are
+// not judged.
+pub fn parse_time_sync_request(packet: &[u8]) -> Result<TimeSyncRequest, Refusal>
     ensures { request_answer result ≡ or_refusal 10 (parse_request packet.now) }
 {
-    let ParsedHeader::Header(header) = parse_media_header(packet) else {
-        return TimeSyncRequest::Refused;
+    let Some(header) = parse_media_header(packet) else {
+        return Err(Refusal::NotTimePacket);
     };
     if header.stream_type != STREAM_TYPE_TIME_SYNC_REQUEST {
-        return TimeSyncRequest::Refused;
+        return Err(Refusal::NotTimePacket);
     }
     if packet.len() < HEADER_LEN + 8 {
-        return TimeSyncRequest::Refused;
+        return Err(Refusal::NotTimePacket);
     }
-    let t1_ns = read_u64(packet, HEADER_LEN);
-    TimeSyncRequest::Numbers {
+    Ok(TimeSyncRequest {
         probe_id: header.sequence,
-        t1_ns,
-    }
+        t1_ns: u64::read_from(packet, HEADER_LEN),
+    })
 }
 
 // Builds a time-sync response of 40 bytes, which has the request's t1 again and the server's receive and send times.
+// Its answer and its refusal are those of a request.
 pub fn build_time_sync_response(
     target: &mut [u8],
     probe_id: u32,
     t1_ns: u64,
     t2_ns: u64,
     t3_ns: u64,
-) -> Built
+) -> Result<usize, Refusal>
     ensures { BuiltAs (build_response (record { probe = probe_id; t1 = t1_ns; t2 = t2_ns; t3 = t3_ns })) target.old target.new result }
 {
     if target.len() < HEADER_LEN + 24 {
-        return Built::Refused;
+        return Err(Refusal::NoRoom);
     }
     push_header(target, STREAM_TYPE_TIME_SYNC_RESPONSE, probe_id, 0);
-    write_u64(target, 16, t1_ns);
-    write_u64(target, 24, t2_ns);
-    write_u64(target, 32, t3_ns);
-    Built::Written(40)
+    t1_ns.write_to(target, 16);
+    t2_ns.write_to(target, 24);
+    t3_ns.write_to(target, 32);
+    Ok(40)
 }
 
-#[derive(Clone, Copy)]
-pub enum TimeSyncResponse {
-    Numbers {
-        probe_id: u32,
-        t1_ns: u64,
-        t2_ns: u64,
-        t3_ns: u64,
-    },
-    // Refusal 10: another type, or under 40 bytes.
-    Refused,
+#[derive(Clone, Copy, PartialEq, Eq, Debug)]
+pub struct TimeSyncResponse {
+    pub probe_id: u32,
+    pub t1_ns: u64,
+    pub t2_ns: u64,
+    pub t3_ns: u64,
 }
 
-// The numbers of a time-sync response. Its magic and version are not judged.
-pub fn parse_time_sync_response(packet: &[u8]) -> TimeSyncResponse
+// The numbers of a time-sync response. Another type is refused, and so is a packet under 40 bytes. Magic and version
+// are not judged.
+pub fn parse_time_sync_response(packet: &[u8]) -> Result<TimeSyncResponse, Refusal>
     ensures { response_answer result ≡ or_refusal 10 (parse_response packet.now) }
 {
-    let ParsedHeader::Header(header) = parse_media_header(packet) else {
-        return TimeSyncResponse::Refused;
+    let Some(header) = parse_media_header(packet) else {
+        return Err(Refusal::NotTimePacket);
     };
     if header.stream_type != STREAM_TYPE_TIME_SYNC_RESPONSE {
-        return TimeSyncResponse::Refused;
+        return Err(Refusal::NotTimePacket);
     }
     if packet.len() < HEADER_LEN + 24 {
-        return TimeSyncResponse::Refused;
+        return Err(Refusal::NotTimePacket);
     }
-    let t1_ns = read_u64(packet, 16);
-    let t2_ns = read_u64(packet, 24);
-    let t3_ns = read_u64(packet, 32);
-    TimeSyncResponse::Numbers {
+    Ok(TimeSyncResponse {
         probe_id: header.sequence,
-        t1_ns,
-        t2_ns,
-        t3_ns,
-    }
+        t1_ns: u64::read_from(packet, 16),
+        t2_ns: u64::read_from(packet, 24),
+        t3_ns: u64::read_from(packet, 32),
+    })
 }
 
 // Nanoseconds: the server's clock less the client's, and the network's share of a probe's time.
-#[derive(Clone, Copy)]
+#[derive(Clone, Copy, PartialEq, Eq, Debug)]
 pub struct OffsetRtt {
     pub offset: i64,
     pub rtt: i64,
@@ -255,7 +217,9 @@ pub struct OffsetRtt {
 pub fn clock_offset_rtt(t1: u64, t2: u64, t3: u64, t4: u64) -> OffsetRtt
     ensures { Measured t1 t2 t3 t4 result }
 {
-    let offset = half_difference(add_with_carry(t2, t3), add_with_carry(t1, t4));
+    let server = t2.carrying_add(t3, false);
+    let client = t1.carrying_add(t4, false);
+    let offset = half_difference(server, client);
     let away = wrapping_sub_u64(t4, t1);
     let served = wrapping_sub_u64(t3, t2);
     let rtt = wrapping_sub_u64(away, served);

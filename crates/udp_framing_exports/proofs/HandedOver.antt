@@ -1,6 +1,6 @@
 -- What an export hands over, from what the function that it calls promises. Assumes nothing.
 use Prim.Native.Nat.{ℕ}
-use mathlib.Core.Path.{◌≡◌, refl}
+use mathlib.Core.Path.{◌≡◌, refl, ◌∙◌}
 use mathlib.Core.Bool.{true, false}
 use mathlib.Core.Option.{Option, none, some}
 use mathlib.Core.List.{List}
@@ -11,8 +11,9 @@ use Rattle.model.proofs.BoolLaws.{clash}
 use Rattle.udp_framing.specs.Views.{accepted, refused, or_refusal}
 use Rattle.udp_framing.specs.Promises.{size_or_refusal, BuiltAs}
 use Rattle.udp_framing_exports.specs.Handing.{size_or0, HandedFrom, BuiltOr0}
-use Rattle.udp_framing.specs.declared.Built.{Built}
-use Rattle.udp_framing.specs.declared.Built.TheVariants.{Written, Refused}
+use Rattle.std.specs.Prelude.{Result, Ok, Err}
+use Rattle.std.specs.Result.{result_unwrap_or}
+use Rattle.calls.specs.declared.Refusal.{Refusal}
 
 module _ {A : Type 0} where
   pub accepted_is_there : (number : ℕ) {a : A} (value : Option A) → accepted a ≡ or_refusal number value → some a ≡ value
@@ -40,12 +41,9 @@ refused_size : (size n : ℕ) (w : Option (List ℕ)) → refused n ≡ size_or_
 refused_size size n none e = refl
 refused_size size n (some bytes) e = clash (cc)
 
-pub size_of_written : {packet entry exit : List ℕ} {answer : Built} {n : ℕ} → answer ≡ Written n → BuiltAs packet entry exit answer
-    → BuiltOr0 packet entry exit n
-size_of_written {packet} {entry} {exit} {answer} {n} e built =
-    record { size = written_size (length packet) n (written_into 0 packet entry) (rw e at built.answered); bytes = built.bytes }
-
-pub size_of_refused : {packet entry exit : List ℕ} {answer : Built} → answer ≡ Refused → BuiltAs packet entry exit answer
-    → BuiltOr0 packet entry exit 0
-size_of_refused {packet} {entry} e built =
-    record { size = refused_size (length packet) 2 (written_into 0 packet entry) (rw e at built.answered); bytes = built.bytes }
+pub size_of_built : {packet entry exit : List ℕ} (answer : Result ℕ Refusal) {n : ℕ} → n ≡ result_unwrap_or answer 0
+    → BuiltAs packet entry exit answer → BuiltOr0 packet entry exit n
+size_of_built {packet} {entry} (Ok m) e built =
+    record { size = e ∙ written_size (length packet) m (written_into 0 packet entry) built.answered; bytes = built.bytes }
+size_of_built {packet} {entry} (Err r) e built =
+    record { size = e ∙ refused_size (length packet) _ (written_into 0 packet entry) built.answered; bytes = built.bytes }

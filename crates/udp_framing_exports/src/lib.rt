@@ -9,14 +9,14 @@ ghost use Rattle.udp_framing.specs.Views.{header_of};
 ghost use Rattle.udp_framing_exports.specs.Handing.{header_with, header_numbers, time_numbers, request_numbers, response_numbers, HandedFrom, BuiltOr0};
 
 use numbers::put;
-use udp_framing::{Built, MediaHeader, ParsedHeader, SendWall, TimeSyncRequest, TimeSyncResponse};
+use udp_framing::MediaHeader;
 
 // Magic, version, stream type, sequence and timestamp.
 #[unsafe(no_mangle)]
 pub extern "C" fn udp_framing_parse_media_header(packet: &[u8], numbers: &mut [u64]) -> bool
     ensures { HandedFrom header_numbers (parse_header packet.now) numbers.old numbers.new result }
 {
-    let ParsedHeader::Header(header) = udp_framing::parse_media_header(packet) else {
+    let Some(header) = udp_framing::parse_media_header(packet) else {
         return false;
     };
     let fields = [
@@ -66,7 +66,7 @@ pub extern "C" fn udp_framing_audio_send_wall_ns(
 ) -> bool
     ensures { HandedFrom time_numbers (audio_send_time (header_with 0 version) packet.now) numbers.old numbers.new result }
 {
-    let SendWall::Ns(n) = udp_framing::audio_send_wall_ns(header_with(0, version), packet) else {
+    let Some(n) = udp_framing::audio_send_wall_ns(header_with(0, version), packet) else {
         return false;
     };
     put(numbers, 0, &[n]);
@@ -82,10 +82,7 @@ pub extern "C" fn udp_framing_build_time_sync_request(
 ) -> usize
     ensures { BuiltOr0 (build_request (record { probe = probe_id; t1 = t1_ns })) target.old target.new result }
 {
-    let Built::Written(n) = udp_framing::build_time_sync_request(target, probe_id, t1_ns) else {
-        return 0;
-    };
-    n
+    udp_framing::build_time_sync_request(target, probe_id, t1_ns).unwrap_or(0)
 }
 
 // The number of bytes that were written; 0 where the target is too short.
@@ -99,12 +96,7 @@ pub extern "C" fn udp_framing_build_time_sync_response(
 ) -> usize
     ensures { BuiltOr0 (build_response (record { probe = probe_id; t1 = t1_ns; t2 = t2_ns; t3 = t3_ns })) target.old target.new result }
 {
-    let Built::Written(n) = udp_framing::build_time_sync_response(
-        target, probe_id, t1_ns, t2_ns, t3_ns,
-    ) else {
-        return 0;
-    };
-    n
+    udp_framing::build_time_sync_response(target, probe_id, t1_ns, t2_ns, t3_ns).unwrap_or(0)
 }
 
 // The probe's number and t1.
@@ -112,12 +104,13 @@ pub extern "C" fn udp_framing_build_time_sync_response(
 pub extern "C" fn udp_framing_parse_time_sync_request(packet: &[u8], numbers: &mut [u64]) -> bool
     ensures { HandedFrom request_numbers (parse_request packet.now) numbers.old numbers.new result }
 {
-    let TimeSyncRequest::Numbers { probe_id, t1_ns } = udp_framing::parse_time_sync_request(packet)
-    else {
-        return false;
-    };
-    put(numbers, 0, &[probe_id as u64, t1_ns]);
-    true
+    match udp_framing::parse_time_sync_request(packet) {
+        Ok(r) => {
+            put(numbers, 0, &[r.probe_id as u64, r.t1_ns]);
+            true
+        }
+        Err(_) => false,
+    }
 }
 
 // The probe's number, t1, t2 and t3.
@@ -125,17 +118,13 @@ pub extern "C" fn udp_framing_parse_time_sync_request(packet: &[u8], numbers: &m
 pub extern "C" fn udp_framing_parse_time_sync_response(packet: &[u8], numbers: &mut [u64]) -> bool
     ensures { HandedFrom response_numbers (parse_response packet.now) numbers.old numbers.new result }
 {
-    let TimeSyncResponse::Numbers {
-        probe_id,
-        t1_ns,
-        t2_ns,
-        t3_ns,
-    } = udp_framing::parse_time_sync_response(packet)
-    else {
-        return false;
-    };
-    put(numbers, 0, &[probe_id as u64, t1_ns, t2_ns, t3_ns]);
-    true
+    match udp_framing::parse_time_sync_response(packet) {
+        Ok(r) => {
+            put(numbers, 0, &[r.probe_id as u64, r.t1_ns, r.t2_ns, r.t3_ns]);
+            true
+        }
+        Err(_) => false,
+    }
 }
 
 #[unsafe(no_mangle)]

@@ -1,28 +1,12 @@
 // Headers of 15 and 16 bytes, versions 0 to 3, and audio datagrams of 23 and 24 bytes.
 use crate::print::{number, text};
-use crate::tally::{Tally, tallied};
-use udp_framing::{MediaHeader, ParsedHeader, SendWall};
+use crate::tally::Tally;
+use udp_framing::MediaHeader;
 
 // Version 2, audio, sequence 7, timestamp 2^32 + 2, and eight bytes more.
 const DATAGRAM: [u8; 24] = [
     0x52, 0x53, 2, 1, 0, 0, 0, 7, 0, 0, 0, 1, 0, 0, 0, 2, 1, 2, 3, 4, 5, 6, 7, 8,
 ];
-
-fn equal_headers(a: MediaHeader, b: MediaHeader) -> bool {
-    if a.magic != b.magic {
-        return false;
-    }
-    if a.version != b.version {
-        return false;
-    }
-    if a.stream_type != b.stream_type {
-        return false;
-    }
-    if a.sequence != b.sequence {
-        return false;
-    }
-    a.timestamp == b.timestamp
-}
 
 fn print_header(h: MediaHeader) {
     number(h.magic as u64);
@@ -32,28 +16,16 @@ fn print_header(h: MediaHeader) {
     number(h.timestamp);
 }
 
-fn header(t: Tally, packet: &[u8], expected: MediaHeader) -> Tally {
+fn header(t: &mut Tally, packet: &[u8], expected: Option<MediaHeader>) {
     text(b"header of");
     number(packet.len() as u64);
     text(b" bytes:");
-    let ParsedHeader::Header(h) = udp_framing::parse_media_header(packet) else {
-        text(b" none");
-        return tallied(t, false);
-    };
-    print_header(h);
-    tallied(t, equal_headers(h, expected))
-}
-
-fn no_header(t: Tally, packet: &[u8]) -> Tally {
-    text(b"header of");
-    number(packet.len() as u64);
-    text(b" bytes:");
-    let ParsedHeader::Header(h) = udp_framing::parse_media_header(packet) else {
-        text(b" none");
-        return tallied(t, true);
-    };
-    print_header(h);
-    tallied(t, false)
+    let found = udp_framing::parse_media_header(packet);
+    match found {
+        Some(h) => print_header(h),
+        None => text(b" none"),
+    }
+    t.count(found == expected);
 }
 
 fn header_with(magic: u16, version: u8) -> MediaHeader {
@@ -66,7 +38,7 @@ fn header_with(magic: u16, version: u8) -> MediaHeader {
     }
 }
 
-fn validity(t: Tally, magic: u16, version: u8, expected: bool) -> Tally {
+fn validity(t: &mut Tally, magic: u16, version: u8, expected: bool) {
     text(b"magic and version");
     number(magic as u64);
     number(version as u64);
@@ -76,94 +48,80 @@ fn validity(t: Tally, magic: u16, version: u8, expected: bool) -> Tally {
     } else {
         text(b": not valid");
     }
-    tallied(t, valid == expected)
+    t.count(valid == expected);
 }
 
-fn start(t: Tally, version: u8, expected: usize) -> Tally {
+fn start(t: &mut Tally, version: u8, expected: usize) {
     text(b"audio of version");
     number(version as u64);
     text(b" starts at");
     let at = udp_framing::audio_samples_offset(version);
     number(at as u64);
-    tallied(t, at == expected)
+    t.count(at == expected);
 }
 
-fn send_time(t: Tally, version: u8, packet: &[u8], expected: u64) -> Tally {
+fn send_time(t: &mut Tally, version: u8, packet: &[u8], expected: Option<u64>) {
     text(b"send time of version and bytes");
     number(version as u64);
     number(packet.len() as u64);
     text(b":");
-    let SendWall::Ns(n) = udp_framing::audio_send_wall_ns(header_with(0x5253, version), packet)
-    else {
-        text(b" none");
-        return tallied(t, false);
-    };
-    number(n);
-    tallied(t, n == expected)
+    let found = udp_framing::audio_send_wall_ns(header_with(0x5253, version), packet);
+    match found {
+        Some(n) => number(n),
+        None => text(b" none"),
+    }
+    t.count(found == expected);
 }
 
-fn no_send_time(t: Tally, version: u8, packet: &[u8]) -> Tally {
-    text(b"send time of version and bytes");
-    number(version as u64);
-    number(packet.len() as u64);
-    text(b":");
-    let SendWall::Ns(n) = udp_framing::audio_send_wall_ns(header_with(0x5253, version), packet)
-    else {
-        text(b" none");
-        return tallied(t, true);
-    };
-    number(n);
-    tallied(t, false)
-}
-
-fn parsed(t: Tally) -> Tally {
+fn parsed(t: &mut Tally) {
     let d = DATAGRAM;
-    let short = no_header(t, &d[..15]);
-    let all = [255u8; 16];
-    let ones = header(
-        short,
-        &all,
-        MediaHeader {
+    header(t, &d[..15], None);
+    header(
+        t,
+        &[255u8; 16],
+        Some(MediaHeader {
             magic: 65535,
             version: 255,
             stream_type: 255,
             sequence: 4294967295,
             timestamp: 18446744073709551615,
-        },
+        }),
     );
     header(
-        ones,
+        t,
         &d[..16],
-        MediaHeader {
+        Some(MediaHeader {
             magic: 21075,
             version: 2,
             stream_type: 1,
             sequence: 7,
             timestamp: 4294967298,
-        },
-    )
+        }),
+    );
 }
 
-fn versions(t: Tally) -> Tally {
-    let t0 = validity(t, 0x5253, 0, false);
-    let t1 = validity(t0, 0x5253, 1, true);
-    let t2 = validity(t1, 0x5253, 2, true);
-    let t3 = validity(t2, 0x5253, 3, false);
-    let turned = validity(t3, 0x5352, 2, false);
-    let s0 = start(turned, 0, 16);
-    let s1 = start(s0, 1, 16);
-    let s2 = start(s1, 2, 24);
-    start(s2, 3, 24)
+fn versions(t: &mut Tally) {
+    validity(t, 0x5253, 0, false);
+    validity(t, 0x5253, 1, true);
+    validity(t, 0x5253, 2, true);
+    validity(t, 0x5253, 3, false);
+    validity(t, 0x5352, 2, false);
+    start(t, 0, 16);
+    start(t, 1, 16);
+    start(t, 2, 24);
+    start(t, 3, 24);
 }
 
-fn send_times(t: Tally) -> Tally {
+fn send_times(t: &mut Tally) {
     let d = DATAGRAM;
-    let t23 = no_send_time(t, 2, &d[..23]);
-    let t24 = send_time(t23, 2, &d, 72623859790382856);
-    let v1 = no_send_time(t24, 1, &d);
-    send_time(v1, 3, &d, 72623859790382856)
+    send_time(t, 2, &d[..23], None);
+    send_time(t, 2, &d, Some(72623859790382856));
+    send_time(t, 1, &d, None);
+    send_time(t, 3, &d, Some(72623859790382856));
 }
 
-pub(crate) fn run(t: Tally) -> Tally {
-    send_times(versions(parsed(t)))
+pub(crate) fn run(t: &mut Tally) {
+    parsed(t);
+    versions(t);
+    send_times(t);
 }

@@ -11,6 +11,9 @@ mod print;
 mod tally;
 
 fn main() {
-    let t = clock::run(tally::fresh());
-    tally::sum_up(packets::run(headers::run(t)));
+    let mut t = tally::Tally::new();
+    clock::run(&mut t);
+    headers::run(&mut t);
+    packets::run(&mut t);
+    t.sum_up();
 }

@@ -1,51 +1,42 @@
 // Time-sync packets, byte by byte, and targets and packets that are a byte too short.
 use crate::print::{bytes, number, text};
-use crate::tally::{Tally, tallied};
-use udp_framing::{Built, TimeSyncRequest, TimeSyncResponse};
+use crate::tally::Tally;
+use calls::Refusal;
+use udp_framing::{TimeSyncRequest, TimeSyncResponse};
 
-fn built(t: Tally, answer: Built, size: usize, target: &[u8], expected: &[u8]) -> Tally {
+// What was answered, and what the target is then.
+fn built(
+    t: &mut Tally,
+    answer: Result<usize, Refusal>,
+    size: Result<usize, Refusal>,
+    target: &[u8],
+    expected: &[u8],
+) {
     text(b"built:");
-    let Built::Written(n) = answer else {
-        text(b" refused");
-        return tallied(t, false);
-    };
-    number(n as u64);
-    bytes(target);
-    if n != size {
-        return tallied(t, false);
+    match answer {
+        Ok(n) => number(n as u64),
+        Err(_) => text(b" refused"),
     }
-    tallied(t, check::same(target, expected))
+    bytes(target);
+    t.count(answer == size && target == expected);
 }
 
-// Refused, and the target is as it was.
-fn not_built(t: Tally, answer: Built, target: &[u8], before: &[u8]) -> Tally {
-    text(b"built:");
-    let Built::Written(n) = answer else {
-        text(b" refused");
-        bytes(target);
-        return tallied(t, check::same(target, before));
-    };
-    number(n as u64);
-    tallied(t, false)
-}
-
-fn build_requests(t: Tally) -> Tally {
+fn build_requests(t: &mut Tally) {
     let mut target = [7u8; 26];
     let answer = udp_framing::build_time_sync_request(&mut target, 0x01020304, 0x1122334455667788);
-    let a = built(
+    built(
         t,
         answer,
-        24,
+        Ok(24),
         &target,
         b"\x52\x53\x02\x0c\x01\x02\x03\x04\x00\x00\x00\x00\x00\x00\x00\x00\x11\x22\x33\x44\x55\x66\x77\x88\x07\x07",
     );
     let mut short = [7u8; 23];
     let refused = udp_framing::build_time_sync_request(&mut short, 1, 1);
-    let sevens = [7u8; 23];
-    not_built(a, refused, &short, &sevens)
+    built(t, refused, Err(Refusal::NoRoom), &short, &[7u8; 23]);
 }
 
-fn build_responses(t: Tally) -> Tally {
+fn build_responses(t: &mut Tally) {
     let mut target = [7u8; 40];
     let answer = udp_framing::build_time_sync_response(
         &mut target,
@@ -54,113 +45,83 @@ fn build_responses(t: Tally) -> Tally {
         0xffffffffffffffff,
         0x8000000000000000,
     );
-    let a = built(
+    built(
         t,
         answer,
-        40,
+        Ok(40),
         &target,
         b"\x52\x53\x02\x0d\xff\xff\xff\xfe\x00\x00\x00\x00\x00\x00\x00\x00\x00\x00\x00\x00\x00\x00\x00\x01\xff\xff\xff\xff\xff\xff\xff\xff\x80\x00\x00\x00\x00\x00\x00\x00",
     );
     let mut short = [7u8; 39];
     let refused = udp_framing::build_time_sync_response(&mut short, 1, 1, 1, 1);
-    let sevens = [7u8; 39];
-    not_built(a, refused, &short, &sevens)
+    built(t, refused, Err(Refusal::NoRoom), &short, &[7u8; 39]);
 }
 
-fn request(t: Tally, packet: &[u8], probe: u32, t1: u64) -> Tally {
+fn request(t: &mut Tally, packet: &[u8], expected: Result<TimeSyncRequest, Refusal>) {
     text(b"request:");
     bytes(packet);
-    let TimeSyncRequest::Numbers { probe_id, t1_ns } = udp_framing::parse_time_sync_request(packet)
-    else {
-        text(b" refused");
-        return tallied(t, false);
-    };
-    number(probe_id as u64);
-    number(t1_ns);
-    if probe_id != probe {
-        return tallied(t, false);
+    let found = udp_framing::parse_time_sync_request(packet);
+    match found {
+        Ok(r) => {
+            number(r.probe_id as u64);
+            number(r.t1_ns);
+        }
+        Err(_) => text(b" refused"),
     }
-    tallied(t, t1_ns == t1)
+    t.count(found == expected);
 }
 
-fn no_request(t: Tally, packet: &[u8]) -> Tally {
-    text(b"request:");
-    bytes(packet);
-    let TimeSyncRequest::Numbers { probe_id, t1_ns } = udp_framing::parse_time_sync_request(packet)
-    else {
-        text(b" refused");
-        return tallied(t, true);
-    };
-    number(probe_id as u64);
-    number(t1_ns);
-    tallied(t, false)
-}
-
-fn response(t: Tally, packet: &[u8], probe: u32, t1: u64, t2: u64, t3: u64) -> Tally {
+fn response(t: &mut Tally, packet: &[u8], expected: Result<TimeSyncResponse, Refusal>) {
     text(b"response:");
     bytes(packet);
-    let TimeSyncResponse::Numbers {
-        probe_id,
-        t1_ns,
-        t2_ns,
-        t3_ns,
-    } = udp_framing::parse_time_sync_response(packet)
-    else {
-        text(b" refused");
-        return tallied(t, false);
-    };
-    number(probe_id as u64);
-    number(t1_ns);
-    number(t2_ns);
-    number(t3_ns);
-    if probe_id != probe {
-        return tallied(t, false);
+    let found = udp_framing::parse_time_sync_response(packet);
+    match found {
+        Ok(r) => {
+            number(r.probe_id as u64);
+            number(r.t1_ns);
+            number(r.t2_ns);
+            number(r.t3_ns);
+        }
+        Err(_) => text(b" refused"),
     }
-    if t1_ns != t1 {
-        return tallied(t, false);
-    }
-    if t2_ns != t2 {
-        return tallied(t, false);
-    }
-    tallied(t, t3_ns == t3)
+    t.count(found == expected);
 }
 
-fn no_response(t: Tally, packet: &[u8]) -> Tally {
-    text(b"response:");
-    bytes(packet);
-    let TimeSyncResponse::Numbers { .. } = udp_framing::parse_time_sync_response(packet) else {
-        text(b" refused");
-        return tallied(t, true);
-    };
-    tallied(t, false)
-}
-
-fn parse(t: Tally) -> Tally {
+fn parse(t: &mut Tally) {
     let asked =
         b"\x52\x53\x02\x0c\x01\x02\x03\x04\x00\x00\x00\x00\x00\x00\x00\x00\x11\x22\x33\x44\x55\x66\x77\x88";
     let answered =
         b"\x00\x53\x09\x0d\xff\xff\xff\xfe\x00\x00\x00\x00\x00\x00\x00\x00\x00\x00\x00\x00\x00\x00\x00\x01\xff\xff\xff\xff\xff\xff\xff\xff\x80\x00\x00\x00\x00\x00\x00\x00";
-    let a = request(t, asked, 16909060, 1234605616436508552);
-    let b = no_request(
-        a,
-        b"\x52\x53\x02\x0c\x01\x02\x03\x04\x00\x00\x00\x00\x00\x00\x00\x00\x11\x22\x33\x44\x55\x66\x77",
+    request(
+        t,
+        asked,
+        Ok(TimeSyncRequest {
+            probe_id: 16909060,
+            t1_ns: 1234605616436508552,
+        }),
     );
-    let c = no_request(b, answered);
-    let d = response(
-        c,
+    request(t, &asked[..23], Err(Refusal::NotTimePacket));
+    request(t, answered, Err(Refusal::NotTimePacket));
+    response(
+        t,
         answered,
-        4294967294,
-        1,
-        18446744073709551615,
-        9223372036854775808,
+        Ok(TimeSyncResponse {
+            probe_id: 4294967294,
+            t1_ns: 1,
+            t2_ns: 18446744073709551615,
+            t3_ns: 9223372036854775808,
+        }),
     );
-    let e = no_response(
-        d,
+    response(
+        t,
         b"\x52\x53\x02\x0d\xff\xff\xff\xfe\x00\x00\x00\x00\x00\x00\x00\x00\x00\x00\x00\x00\x00\x00\x00\x01\xff\xff\xff\xff\xff\xff\xff\xff\x80\x00\x00\x00\x00\x00\x00",
+        Err(Refusal::NotTimePacket),
     );
-    no_response(e, asked)
+    response(t, asked, Err(Refusal::NotTimePacket));
 }
 
-pub(crate) fn run(t: Tally) -> Tally {
-    parse(build_responses(build_requests(t)))
+pub(crate) fn run(t: &mut Tally) {
+    build_requests(t);
+    build_responses(t);
+    parse(t);
 }

@@ -1,43 +1,36 @@
 // How many vectors were run, and how many were equal to what is expected.
 use crate::print::{number, text};
-use std::num::wrapping_add_u64;
 
 #[derive(Clone, Copy)]
-pub struct Tally {
-    pub run: u64,
-    pub equal: u64,
+pub(crate) struct Tally {
+    run: u64,
+    equal: u64,
 }
 
-pub(crate) fn fresh() -> Tally {
-    Tally { run: 0, equal: 0 }
-}
-
-// Ends a vector's line.
-pub(crate) fn tallied(t: Tally, same: bool) -> Tally {
-    let run = wrapping_add_u64(t.run, 1);
-    if same {
-        text(b": equal\n");
-        return Tally {
-            run,
-            equal: wrapping_add_u64(t.equal, 1),
-        };
+impl Tally {
+    pub(crate) fn new() -> Tally {
+        Tally { run: 0, equal: 0 }
     }
-    text(b": DIFFERENT\n");
-    Tally {
-        run,
-        equal: t.equal,
-    }
-}
 
-pub(crate) fn sum_up(t: Tally) {
-    if t.equal == t.run {
-        text(b"all");
-        number(t.run);
+    // Ends a vector's line.
+    pub(crate) fn count(&mut self, same: bool) {
+        if same {
+            text(b": equal\n");
+            self.equal = self.equal.wrapping_add(1);
+        } else {
+            text(b": DIFFERENT\n");
+        }
+        self.run = self.run.wrapping_add(1);
+    }
+
+    pub(crate) fn sum_up(self) {
+        if self.equal == self.run {
+            text(b"all");
+        } else {
+            number(self.equal);
+            text(b" of");
+        }
+        number(self.run);
         text(b" vectors equal\n");
-        return;
     }
-    number(t.equal);
-    text(b" of");
-    number(t.run);
-    text(b" vectors equal\n");
 }

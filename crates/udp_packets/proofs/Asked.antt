@@ -1,4 +1,5 @@
 -- Question 3 of what a channel shows, and question 8, by the tests of the code; and the first is the model's question of the channel. Assumes nothing.
+use Rattle.std.proofs.Common.{Option, None, Some}
 use mathlib.Core.Path.{◌≡◌, refl, sym}
 use mathlib.Core.Bool.{Bool, true, false, not, ◌&&◌, beq}
 use mathlib.Core.List.{List}
@@ -16,8 +17,6 @@ use Rattle.model.proofs.BoolLaws.{by_test}
 use Rattle.calls.specs.declared.Sizes.{Sizes}
 use Rattle.calls.specs.Views.{sizes_of}
 use Rattle.reassembler.specs.declared.OpenRow.{OpenRow}
-use Rattle.reassembler.specs.declared.WaterfallReassembler.{WaterfallReassembler}
-use Rattle.reassembler.specs.declared.WaterfallReassembler.TheVariants as State
 use Rattle.udp_packets.specs.declared.Screen.{Screen}
 use Rattle.reassembler.specs.Rows.{row_of}
 use Rattle.udp_packets.specs.Packets.{row_asked, screen_asked, channel_of}
@@ -31,23 +30,23 @@ beq_true true = refl
 beq_true false = refl
 
 module _ (bins : ℕ) (r : OpenRow) where
-  pub too_many_bins : bins < r.total_bins → false ≡ row_asked bins (State.Open r)
+  pub too_many_bins : bins < r.total_bins → false ≡ row_asked bins (Some r)
   unfolding row_asked
   too_many_bins long = rw (lt-leb r.total_bins bins long)
 
-  pub not_yet_full : r.total_bins ≤ bins → r.filled < r.total_bins → not r.done ≡ row_asked bins (State.Open r)
+  pub not_yet_full : r.total_bins ≤ bins → r.filled < r.total_bins → not r.done ≡ row_asked bins (Some r)
   unfolding row_asked
   not_yet_full fits below =
       rw (le-leb r.total_bins bins fits, lt-ltb r.filled (2 * r.total_bins) (omega arith), lt-leb r.total_bins r.filled below)
       (beq_false r.done)
 
-  pub full : r.total_bins ≤ bins → r.total_bins ≤ r.filled → r.filled - r.total_bins < r.total_bins → r.done ≡ row_asked bins (State.Open r)
+  pub full : r.total_bins ≤ bins → r.total_bins ≤ r.filled → r.filled - r.total_bins < r.total_bins → r.done ≡ row_asked bins (Some r)
   unfolding row_asked
   full fits whole few =
       rw (le-leb r.total_bins bins fits, lt-ltb r.filled (2 * r.total_bins) (omega arith), le-leb r.total_bins r.filled whole)
       (beq_true r.done)
 
-  pub filled_twice : r.total_bins ≤ bins → r.total_bins ≤ r.filled → r.total_bins ≤ r.filled - r.total_bins → false ≡ row_asked bins (State.Open r)
+  pub filled_twice : r.total_bins ≤ bins → r.total_bins ≤ r.filled → r.total_bins ≤ r.filled - r.total_bins → false ≡ row_asked bins (Some r)
   unfolding row_asked
   filled_twice fits whole twice = rw (le-leb r.total_bins bins fits, le-ltb r.filled (2 * r.total_bins) (omega arith))
 
@@ -77,10 +76,10 @@ module _ (z : Sizes) (payload : List ℕ) where
 
 -- ---- the model's question of the channel
 
-row_asked_is : (z : Sizes) (r : WaterfallReassembler) (xs : List Float) → row_asked z.bins r ≡ row_held (sizes_of z) (row_of r xs)
+row_asked_is : (z : Sizes) (r : Option OpenRow) (xs : List Float) → row_asked z.bins r ≡ row_held (sizes_of z) (row_of r xs)
 unfolding row_asked row_held
-row_asked_is z State.NoRow xs = refl
-row_asked_is z (State.Open r) xs = refl
+row_asked_is z None xs = refl
+row_asked_is z (Some r) xs = refl
 
 -- a part that is longer than bins shows as longer, where there is room for one more
 length_asked : (bins at n : ℕ) (xs : List Float) → at + bins + 1 ≤ length xs → leb n bins ≡ leb (length (part at n xs)) bins

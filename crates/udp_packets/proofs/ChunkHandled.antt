@@ -1,4 +1,5 @@
 -- What a waterfall payload leaves, from what its chunk and the row that it completed leave. Assumes nothing.
+use Rattle.std.proofs.Common.{Option, None, Some}
 use mathlib.Core.Path.{◌≡◌, refl, sym, ◌∙◌, subst}
 use mathlib.Core.Bool.{true, and-eq-true_iff}
 use mathlib.Core.List.{List, ◌++◌}
@@ -18,10 +19,7 @@ use Rattle.model.proofs.ListLaws.{alike_shorter}
 use Rattle.areas.proofs.Placed.{part_behind}
 use Rattle.calls.specs.declared.Sizes.{Sizes}
 use Rattle.calls.specs.Views.{sizes_of}
-use Rattle.reassembler.specs.declared.WaterfallReassembler.{WaterfallReassembler}
-use Rattle.reassembler.specs.declared.WaterfallReassembler.TheVariants as State
-use Rattle.reassembler.specs.declared.CompletedRow.{CompletedRow}
-use Rattle.reassembler.specs.declared.CompletedRow.TheVariants as Completed
+use Rattle.reassembler.specs.declared.OpenRow.{OpenRow}
 use Rattle.reassembler.specs.declared.Pushed.{Pushed}
 use Rattle.udp_packets.specs.declared.Screen.{Screen}
 use Rattle.reassembler.specs.Requires.{RowKept, PushFits}
@@ -31,10 +29,10 @@ use Rattle.udp_packets.proofs.Screens.{asked_lengths, screen_still_asked, none_c
 
 -- ---- before
 
-row_fits : (bins : ℕ) (r : WaterfallReassembler) (xs : List Float) → row_asked bins r ≡ true → bins ≤ length xs → RowKept (row_of r xs) (length xs)
+row_fits : (bins : ℕ) (r : Option OpenRow) (xs : List Float) → row_asked bins r ≡ true → bins ≤ length xs → RowKept (row_of r xs) (length xs)
 unfolding row_asked
-row_fits bins State.NoRow xs asked long = tt
-row_fits bins (State.Open r) xs asked long =
+row_fits bins None xs asked long = tt
+row_fits bins (Some r) xs asked long =
     let total = (and-eq-true_iff (leb r.total_bins bins) _).0 asked in
     let fits = leb-true r.total_bins bins total.0 in
     (omega arith, ltb-true r.filled (2 * r.total_bins) (first_of_both (ltb r.filled (2 * r.total_bins)) _ total.1))
@@ -89,16 +87,16 @@ module _ (z : Sizes) (s : Screen) (work : ℕ) (rows : List Float) (picture payl
   pub ready_after : ScreenReady z screen_after (length rows_pushed) work (length picture)
   ready_after = record { allowed = ready.allowed; held = after_asked; behind = ready.behind; fits = omega (arith, ready.fits, rows_pushed_length); whole = ready.whole }
 
-  pub completed_inside : (n : ℕ) → p.completed ≡ Completed.Bins n → (1 ≤ n) × (n ≤ z.bins)
+  pub completed_inside : (n : ℕ) → p.completed ≡ Some n → (1 ≤ n) × (n ≤ z.bins)
   completed_inside n is =
-      let h = subst (λ (x : CompletedRow). CompletedInside x (length after)) is pushed.inside in
+      let h = subst (λ (x : Option ℕ). CompletedInside x (length after)) is pushed.inside in
       (h.0, omega (arith, h.1, as_long))
 
   between_after : part (3 * z.bins) (work - 3 * z.bins) rows_pushed ≡ part (3 * z.bins) (work - 3 * z.bins) rows
   between_after = behind_stays (3 * z.bins) (work - 3 * z.bins) (omega arith) (omega (arith, ready.behind, ready.fits))
 
-  pub chunk_completes_none : p.completed ≡ Completed.NoRow
-      → WaterfallHandled z s rows work picture payload (record { screen = screen_after; completed = Completed.NoRow }) rows_pushed picture
+  pub chunk_completes_none : p.completed ≡ None
+      → WaterfallHandled z s rows work picture payload (record { screen = screen_after; completed = None }) rows_pushed picture
   chunk_completes_none is =
       let lengths = asked_lengths z.bins s ready.held in
       record {
@@ -114,9 +112,9 @@ module _ (z : Sizes) (s : Screen) (work : ℕ) (rows : List Float) (picture payl
         picture_as_long = refl;
       }
 
-  pub chunk_completes_one : (n : ℕ) (shown : Screen) (rows' : List Float) (picture' : List ℕ) → p.completed ≡ Completed.Bins n
+  pub chunk_completes_one : (n : ℕ) (shown : Screen) (rows' : List Float) (picture' : List ℕ) → p.completed ≡ Some n
       → RowShown z screen_after rows_pushed n work picture shown rows' picture' → length rows' ≡ length rows_pushed → length picture' ≡ length picture
-      → WaterfallHandled z s rows work picture payload (record { screen = shown; completed = Completed.Bins n }) rows' picture'
+      → WaterfallHandled z s rows work picture payload (record { screen = shown; completed = Some n }) rows' picture'
   chunk_completes_one n shown rows' picture' is r rows-kept picture-kept =
       let lengths = asked_lengths z.bins s ready.held in
       let few = (completed_inside n is).1 in

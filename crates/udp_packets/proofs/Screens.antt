@@ -1,7 +1,9 @@
 -- A channel in lent memory takes the model's step: a row that is shown, and a chunk that completes none or one. Assumes nothing.
+use Rattle.std.proofs.Common.{Option, None, Some}
 use mathlib.Core.Path.{◌≡◌, refl, sym, ◌∙◌, ap, subst}
 use mathlib.Core.Bool.{Bool, true, false, beq, and-eq-true_iff}
-use mathlib.Core.Option.{Option, none, some}
+use mathlib.Core.Option as Maybe
+use mathlib.Core.Option.{none, some}
 use mathlib.Core.List.{List}
 use Prim.Native.Nat.{ℕ, ◌*◌, ◌≤◌}
 use native.Mathlib.Omega.{arith}
@@ -24,9 +26,7 @@ use Rattle.model.proofs.RowLaws.{RowKept, push_chunk_keeps, row_kept_held}
 use Rattle.calls.specs.declared.Sizes.{Sizes}
 use Rattle.calls.specs.Views.{sizes_of}
 use Rattle.udp.specs.declared.Display.{Display}
-use Rattle.reassembler.specs.declared.WaterfallReassembler.{WaterfallReassembler}
-use Rattle.reassembler.specs.declared.WaterfallReassembler.TheVariants as State
-use Rattle.reassembler.specs.declared.CompletedRow.TheVariants as Completed
+use Rattle.reassembler.specs.declared.OpenRow.{OpenRow}
 use Rattle.reassembler.specs.declared.Pushed.{Pushed}
 use Rattle.udp_packets.specs.declared.Screen.{Screen}
 use Rattle.reassembler.specs.Rows.{open_of, row_of, completed_of, PushedAs}
@@ -36,10 +36,10 @@ use Rattle.udp_packets.specs.Packets.{row_asked, screen_asked, channel_of}
 -- ---- a row that could be held
 
 -- its values stand in the first bins
-pub row_in_front : (bins : ℕ) (r : WaterfallReassembler) (xs ys : List Float) → row_asked bins r ≡ true → take bins xs ≡ take bins ys → row_of r xs ≡ row_of r ys
+pub row_in_front : (bins : ℕ) (r : Option OpenRow) (xs ys : List Float) → row_asked bins r ≡ true → take bins xs ≡ take bins ys → row_of r xs ≡ row_of r ys
 unfolding row_asked
-row_in_front bins State.NoRow xs ys asked alike = refl
-row_in_front bins (State.Open r) xs ys asked alike =
+row_in_front bins None xs ys asked alike = refl
+row_in_front bins (Some r) xs ys asked alike =
     let fits = leb-true r.total_bins bins (first_of_both (leb r.total_bins bins) _ asked) in
     rw (alike_shorter r.total_bins bins xs ys fits alike)
 
@@ -49,10 +49,10 @@ beq_equal true false e = sym e
 beq_equal false true e = e
 beq_equal false false e = refl
 
-pub asked_kept : (z : Sizes) (r : WaterfallReassembler) (xs : List Float) → row_asked z.bins r ≡ true → z.bins ≤ length xs → RowKept (sizes_of z) (row_of r xs)
+pub asked_kept : (z : Sizes) (r : Option OpenRow) (xs : List Float) → row_asked z.bins r ≡ true → z.bins ≤ length xs → RowKept (sizes_of z) (row_of r xs)
 unfolding row_asked
-asked_kept z State.NoRow xs asked long = tt
-asked_kept z (State.Open r) xs asked long =
+asked_kept z None xs asked long = tt
+asked_kept z (Some r) xs asked long =
     let total = (and-eq-true_iff (leb r.total_bins z.bins) _).0 asked in
     let filled = (and-eq-true_iff (ltb r.filled (2 * r.total_bins)) _).0 total.1 in
     let fits = leb-true r.total_bins z.bins total.0 in
@@ -65,10 +65,10 @@ asked_kept z (State.Open r) xs asked long =
       as_long = length-take-le r.total_bins xs (omega arith);
     }
 
-pub kept_asked : (z : Sizes) (r : WaterfallReassembler) (xs : List Float) → RowKept (sizes_of z) (row_of r xs) → row_asked z.bins r ≡ true
+pub kept_asked : (z : Sizes) (r : Option OpenRow) (xs : List Float) → RowKept (sizes_of z) (row_of r xs) → row_asked z.bins r ≡ true
 unfolding row_asked row_held
-kept_asked z State.NoRow xs kept = refl
-kept_asked z (State.Open r) xs kept = row_kept_held (sizes_of z) (some (open_of r xs)) kept
+kept_asked z None xs kept = refl
+kept_asked z (Some r) xs kept = row_kept_held (sizes_of z) (some (open_of r xs)) kept
 
 pub asked_lengths : (bins : ℕ) (s : Screen) → screen_asked bins s ≡ true → (s.spectrum_len ≤ bins) × (s.smooth_len ≤ bins)
 unfolding screen_asked
@@ -91,7 +91,7 @@ module _ (z : Sizes) (s : Screen) (b : Buffer Float) (n : ℕ) (rows rows' : Lis
 
 -- ---- a chunk
 
-result_of : (r : RowResult) (kept : Option Row) (completed : Option (List Float)) → kept ≡ r.row → completed ≡ r.completed
+result_of : (r : RowResult) (kept : Maybe.Option Row) (completed : Maybe.Option (List Float)) → kept ≡ r.row → completed ≡ r.completed
     → r ≡ record { row = kept; completed = completed }
 result_of r kept completed row_is completed-is = rw (row_is, completed-is)
 
@@ -114,7 +114,7 @@ module _ (z : Sizes) (s : Screen) (payload : List ℕ) (rows rows' before after 
   chunk_pushed =
       ap (push_chunk payload) (sym (row_in_front z.bins s.row before rows row_asked_law lent))
       ∙ result_of _ (row_of p.row after) (completed_of p.completed after) pushed.row pushed.completed
-      ∙ ap (λ (r : Option Row). record { row = r; completed = completed_of p.completed after }) (row_in_front z.bins p.row after rows' row_still_asked left)
+      ∙ ap (λ (r : Maybe.Option Row). record { row = r; completed = completed_of p.completed after }) (row_in_front z.bins p.row after rows' row_still_asked left)
 
   -- the screen with the chunk's row
   abbrev screen_pushed : Screen
@@ -127,12 +127,12 @@ module _ (z : Sizes) (s : Screen) (payload : List ℕ) (rows rows' before after 
   module _ (b : Buffer Float) (picture : List ℕ)
       (spectrum-stays : part z.bins s.spectrum_len rows' ≡ part z.bins s.spectrum_len rows)
       (smoothing-stays : part (2 * z.bins) s.smooth_len rows' ≡ part (2 * z.bins) s.smooth_len rows) where
-    pub none_completed : p.completed ≡ Completed.NoRow
+    pub none_completed : p.completed ≡ None
         → waterfall_into (sizes_of z) payload (channel_of z b s rows picture) ≡ record { after = channel_of z b screen_pushed rows' picture; answer = row none }
     unfolding waterfall_into chunk_result
     none_completed is = rw (chunk_pushed, is, spectrum-stays, smoothing-stays)
 
-    pub one_completed : (n : ℕ) → p.completed ≡ Completed.Bins n
+    pub one_completed : (n : ℕ) → p.completed ≡ Some n
         → waterfall_into (sizes_of z) payload (channel_of z b s rows picture)
         ≡ record { after = shown_row (sizes_of z) (row_of p.row rows') (take n after) (channel_of z b screen_pushed rows' picture); answer = row (some (take n after)) }
     unfolding waterfall_into chunk_result shown_row

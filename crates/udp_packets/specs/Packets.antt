@@ -1,5 +1,5 @@
 -- What the functions of a datagram's payload promise: what they leave is what the model's step leaves of the channel. Assumes nothing.
-use Rattle.std.specs.Prelude.{◌≡◌, Bool, true, ◌&&◌, List, ℕ, ◌+◌, ◌-◌, ◌*◌, ◌≤◌, length, take, leb, ltb, Float}
+use Rattle.std.specs.Prelude.{◌≡◌, Bool, true, ◌&&◌, Option, None, Some, List, ℕ, ◌+◌, ◌-◌, ◌*◌, ◌≤◌, length, take, leb, ltb, Float}
 use Rattle.std.specs.Bool.{beq}
 use Rattle.std.proofs.Math.Option.{none}
 use Rattle.model.specs.Bytes.{part}
@@ -13,8 +13,7 @@ use Rattle.calls.specs.Views.{sizes_of}
 use Rattle.jitter_buffer.specs.declared.JitterBuffer.{JitterBuffer}
 use Rattle.jitter_buffer.specs.View.{view_of}
 use Rattle.jitter_buffer.specs.Promises.{AsLong}
-use Rattle.reassembler.specs.declared.WaterfallReassembler.{WaterfallReassembler}
-use Rattle.reassembler.specs.declared.WaterfallReassembler.TheVariants as State
+use Rattle.reassembler.specs.declared.OpenRow.{OpenRow}
 use Rattle.udp_packets.specs.declared.Screen.{Screen}
 use Rattle.udp_packets.specs.declared.Handled.{Handled}
 use Rattle.reassembler.specs.Rows.{row_of, completed_of, CompletedInside}
@@ -28,9 +27,9 @@ pub record AudioHandled (z : Sizes) (j : JitterBuffer) (fs : List Float) (us : L
 -- ---- question 3, of the numbers alone
 
 -- a row: total ≤ bins, filled bins < 2 × total, and done exactly when filled ≥ total
-unfoldable pub row_asked : ℕ → WaterfallReassembler → Bool
-row_asked bins State.NoRow = true
-row_asked bins (State.Open r) =
+unfoldable pub row_asked : ℕ → Option OpenRow → Bool
+row_asked bins None = true
+row_asked bins (Some r) =
     leb r.total_bins bins
     && (ltb r.filled (2 * r.total_bins)
     && beq r.done (leb r.total_bins r.filled))
@@ -43,7 +42,7 @@ screen_asked bins s = row_asked bins s.row && (leb s.spectrum_len bins && leb s.
 
 -- a screen before the first payload: no row, nothing shown, and the settings that a receiver starts with
 pub record FreshScreen (top floor range : Float) (r : Screen) : Type 0 where
-  pub no_row : r.row ≡ State.NoRow
+  pub no_row : r.row ≡ None
   pub no_spectrum : r.spectrum_len ≡ 0
   pub no_smoothing : r.smooth_len ≡ 0
   pub display : (e : Estimates) → top ≡ from_bits e.top → floor ≡ from_bits e.floor → range ≡ from_bits e.range → display_of r.display ≡ fresh_display e

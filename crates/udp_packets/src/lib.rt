@@ -11,9 +11,9 @@ ghost use Rattle.udp_packets.specs.Packets.{AudioHandled, row_asked, screen_aske
 
 use calls::Sizes;
 use jitter_buffer::JitterBuffer;
-use reassembler::{CompletedRow, WaterfallReassembler};
+use reassembler::OpenRow;
 use udp::Display;
-use udp_framing::big_endian::read_u16;
+use udp_framing::big_endian::BigEndian;
 
 // Whether a payload holds samples: 2 bytes or more, and of even length.
 fn holds_samples(payload: &[u8]) -> bool
@@ -47,7 +47,7 @@ pub fn handle_audio_packet(
 // the spectrum and of smoothing are in use, and the display.
 #[derive(Clone, Copy)]
 pub struct Screen {
-    pub row: WaterfallReassembler,
+    pub row: Option<OpenRow>,
     pub spectrum_len: usize,
     pub smooth_len: usize,
     pub display: Display,
@@ -57,14 +57,14 @@ pub struct Screen {
 #[derive(Clone, Copy)]
 pub struct Handled {
     pub screen: Screen,
-    pub completed: CompletedRow,
+    pub completed: Option<usize>,
 }
 
 // Question 3 for a row: whether a receiver with rows of at most so many bins could hold it.
-fn row_could_be_held(row: WaterfallReassembler, bins: usize) -> bool
+fn row_could_be_held(row: Option<OpenRow>, bins: usize) -> bool
     ensures { result ≡ row_asked bins row }
 {
-    let WaterfallReassembler::Open(open) = row else {
+    let Some(open) = row else {
         return true;
     };
     let total_bins = open.total_bins;
@@ -87,7 +87,7 @@ impl Screen {
         ensures { FreshScreen top_estimate floor_estimate range_estimate result }
     {
         Screen {
-            row: WaterfallReassembler::NoRow,
+            row: None,
             spectrum_len: 0,
             smooth_len: 0,
             display: Display {
@@ -126,7 +126,7 @@ pub fn total_allowed(z: Sizes, payload: &[u8]) -> bool
     if payload.len() < 6 {
         return true;
     }
-    (read_u16(payload, 2) as usize) <= z.bins
+    (u16::read_from(payload, 2) as usize) <= z.bins
 }
 
 // Shows the row of n bins that `rows` begins with: the spectrum and the estimates follow the raw row, then smoothing does,
@@ -158,12 +158,11 @@ fn show_row(
         udp::shown_range(display),
         display.zoom,
     );
-    let row = screen.row;
     Screen {
-        row,
         spectrum_len,
         smooth_len,
         display,
+        ..screen
     }
 }
 
@@ -180,26 +179,20 @@ pub fn handle_waterfall_packet(
     ensures { WaterfallHandled z screen rows.old work picture.old payload.now result rows.new picture.new }
 {
     let bins = z.bins;
-    let row = screen.row;
-    let pushed = row.push_chunk(&mut rows[..bins], payload);
-    let row_after = pushed.row;
-    let display = screen.display;
+    let pushed = reassembler::push_chunk(screen.row, &mut rows[..bins], payload);
     let filled = Screen {
-        row: row_after,
-        spectrum_len: screen.spectrum_len,
-        smooth_len: screen.smooth_len,
-        display,
+        row: pushed.row,
+        ..screen
     };
-    let completed = pushed.completed;
-    let CompletedRow::Bins(n) = completed else {
+    let Some(n) = pushed.completed else {
         return Handled {
             screen: filled,
-            completed: CompletedRow::NoRow,
+            completed: None,
         };
     };
     let shown = show_row(filled, z, rows, n, work, picture);
     Handled {
         screen: shown,
-        completed: CompletedRow::Bins(n),
+        completed: Some(n),
     }
 }

@@ -11,33 +11,19 @@ pub struct Difference {
     pub expected: u32,
 }
 
-#[derive(Clone, Copy)]
-pub enum Verdict {
-    Same,
-    Differs(Difference),
-}
-
 fn low(n: u64) -> u32
     ensures { result ≤ 4294967295 }
 {
     (n % 4294967296) as u32
 }
 
-// The first difference of two.
-pub(crate) fn first(a: Verdict, b: Verdict) -> Verdict {
-    match a {
-        Verdict::Same => b,
-        Verdict::Differs(d) => Verdict::Differs(d),
-    }
-}
-
 // As many as the words.
-pub(crate) fn length(found: usize, words: &[u32]) -> Verdict {
+pub(crate) fn length(found: usize, words: &[u32]) -> Result<(), Difference> {
     let expected = words.len();
     if found == expected {
-        return Verdict::Same;
+        return Ok(());
     }
-    Verdict::Differs(Difference {
+    Err(Difference {
         word: expected,
         found: low(found as u64),
         expected: low(expected as u64),
@@ -45,60 +31,63 @@ pub(crate) fn length(found: usize, words: &[u32]) -> Verdict {
 }
 
 // An answer. A line has the expected one as its first word.
-pub(crate) fn answer(found: u32, expected: u32) -> Verdict {
+pub(crate) fn answer(found: u32, expected: u32) -> Result<(), Difference> {
     if found == expected {
-        return Verdict::Same;
+        return Ok(());
     }
-    Verdict::Differs(Difference {
+    Err(Difference {
         word: 0,
         found,
         expected,
     })
 }
 
-// So many numbers from a place on. Where there are fewer, they end in zeros.
-pub(crate) fn numbers(found: &[u32], from: usize, n: usize, words: &[u32]) -> Verdict {
-    let mut i = 0;
-    while i < words.len() {
-        let number = word(found, std::num::wrapping_add_usize(from, i));
-        if number != words[i] {
-            return Verdict::Differs(Difference {
+// The numbers that are found at the places 0, 1, 2 and so on, one for each word of a line, and how many they are.
+fn each<F: Fn(usize) -> u32>(found: F, n: usize, words: &[u32]) -> Result<(), Difference>
+    requires { F.IsAlwaysCallable found }
+{
+    for (i, expected) in words.iter().enumerate() {
+        let number = found(i);
+        if number != *expected {
+            return Err(Difference {
                 word: i,
                 found: number,
-                expected: words[i],
+                expected: *expected,
             });
         }
-        i += 1;
     }
     length(n, words)
+}
+
+// So many numbers from a place on. Where there are fewer, they end in zeros.
+pub(crate) fn numbers(
+    found: &[u32],
+    from: usize,
+    n: usize,
+    words: &[u32],
+) -> Result<(), Difference> {
+    each(|i| word(found, from.wrapping_add(i)), n, words)
 }
 
 // The bits of a value, 0 past the end.
 fn bits_at(values: &[f32], at: usize) -> u32 {
-    if at < values.len() {
-        return floats::to_bits(values[at]);
+    match values.get(at) {
+        Some(x) => floats::to_bits(*x),
+        None => 0,
     }
-    0
 }
 
 // So many values from a place on.
-pub(crate) fn values(found: &[f32], from: usize, n: usize, words: &[u32]) -> Verdict {
-    let mut i = 0;
-    while i < words.len() {
-        let bits = bits_at(found, std::num::wrapping_add_usize(from, i));
-        if bits != words[i] {
-            return Verdict::Differs(Difference {
-                word: i,
-                found: bits,
-                expected: words[i],
-            });
-        }
-        i += 1;
-    }
-    length(n, words)
+pub(crate) fn values(
+    found: &[f32],
+    from: usize,
+    n: usize,
+    words: &[u32],
+) -> Result<(), Difference> {
+    each(|i| bits_at(found, from.wrapping_add(i)), n, words)
 }
 
-pub(crate) fn estimates(d: Display, words: &[u32]) -> Verdict {
+pub(crate) fn estimates(d: Display, words: &[u32]) -> Result<(), Difference> {
     let found = [
         floats::to_bits(d.top_estimate),
         floats::to_bits(d.floor_estimate),
@@ -110,36 +99,32 @@ pub(crate) fn estimates(d: Display, words: &[u32]) -> Verdict {
 // The sum of so many values from a place on. Each changes all of it, and so does its place.
 pub(crate) fn sum(found: &[f32], from: usize, n: usize) -> u32 {
     let mut total: u32 = 0;
-    let mut i = 0;
-    while i < n {
-        let bits = bits_at(found, std::num::wrapping_add_usize(from, i));
-        total = low((total as u64) * 31 + (bits as u64));
-        i += 1;
+    for i in 0..n {
+        let bits = bits_at(found, from.wrapping_add(i));
+        total = total.wrapping_mul(31).wrapping_add(bits);
     }
     total
 }
 
 // The colours from a level on.
-pub(crate) fn colours(words: &[u32]) -> Verdict {
-    let before = (word(words, 0) % 256 + 255) as usize;
-    let mut i = 1;
-    while i < words.len() {
-        let level = ((before + i % 256) % 256) as u8;
-        let found = spectrum_utils::color_map(level);
+pub(crate) fn colours(words: &[u32]) -> Result<(), Difference> {
+    let before = word(words, 0) % 256 + 255;
+    for i in 1..words.len() {
+        let level = (before + (i % 256) as u32) % 256;
+        let found = spectrum_utils::color_map(level as u8);
         if found != words[i] {
-            return Verdict::Differs(Difference {
+            return Err(Difference {
                 word: i,
                 found,
                 expected: words[i],
             });
         }
-        i += 1;
     }
-    Verdict::Same
+    Ok(())
 }
 
 // The sequence, then packets, dropped ones in two words, and late ones.
-pub(crate) fn counts(c: StreamCounts, words: &[u32]) -> Verdict {
+pub(crate) fn counts(c: StreamCounts, words: &[u32]) -> Result<(), Difference> {
     let found = [
         word(words, 0),
         low(c.packets),

@@ -1,12 +1,11 @@
 // What shows of a channel, and the colours, against a line's words.
 use crate::compare;
-use crate::compare::Verdict;
+use crate::compare::Difference;
 use crate::session::Session;
 use calls::{Side, Sizes};
-use reassembler::WaterfallReassembler;
+use reassembler::OpenRow;
 use receiver_state::readings::{Place, picture_place, row_place};
 use receiver_state::sides::channel_of;
-use std::num::wrapping_add_usize;
 use udp_packets::Screen;
 
 // The places of a picture.
@@ -18,17 +17,21 @@ fn pixels_of(z: Sizes) -> usize {
 }
 
 // The bins of the row that is open, or was completed last.
-fn row_len(row: WaterfallReassembler) -> usize {
-    match row {
-        WaterfallReassembler::NoRow => 0,
-        WaterfallReassembler::Open(r) => r.total_bins,
-    }
+fn row_len(row: Option<OpenRow>) -> usize {
+    row.map_or(0, |r| r.total_bins)
 }
 
 // Row, spectrum and smoothing buffer, which stand behind each other with room for `bins` values each.
-fn rows(letter: u8, screen: Screen, bins: usize, fs: &[f32], row: usize, words: &[u32]) -> Verdict {
-    let spectrum = wrapping_add_usize(row, bins);
-    let smoothing = wrapping_add_usize(spectrum, bins);
+fn rows(
+    letter: u8,
+    screen: Screen,
+    bins: usize,
+    fs: &[f32],
+    row: usize,
+    words: &[u32],
+) -> Result<(), Difference> {
+    let spectrum = row.wrapping_add(bins);
+    let smoothing = spectrum.wrapping_add(bins);
     let open = screen.row;
     let row_bins = row_len(open);
     match letter {
@@ -46,14 +49,20 @@ fn rows(letter: u8, screen: Screen, bins: usize, fs: &[f32], row: usize, words: 
     }
 }
 
-fn picture(z: Sizes, side: Side, us: &[u32], words: &[u32]) -> Verdict {
+fn picture(z: Sizes, side: Side, us: &[u32], words: &[u32]) -> Result<(), Difference> {
     match picture_place(z, side) {
         Place::NoSizes => compare::length(0, words),
         Place::At(at) => compare::numbers(us, at, pixels_of(z), words),
     }
 }
 
-pub(crate) fn look(letter: u8, s: Session, fs: &[f32], us: &[u32], words: &[u32]) -> Verdict {
+pub(crate) fn look(
+    letter: u8,
+    s: Session,
+    fs: &[f32],
+    us: &[u32],
+    words: &[u32],
+) -> Result<(), Difference> {
     let side = s.side;
     let r = s.receiver;
     let z = r.sizes;
@@ -71,12 +80,10 @@ pub(crate) fn look(letter: u8, s: Session, fs: &[f32], us: &[u32], words: &[u32]
 }
 
 // What streams 1 and 2 have counted, each for itself.
-pub(crate) fn counts(s: Session, words: &[u32]) -> Verdict {
+pub(crate) fn counts(s: Session, words: &[u32]) -> Result<(), Difference> {
     let r = s.receiver;
     let audio = r.audio;
     let waterfall = r.waterfall;
-    compare::first(
-        compare::counts(audio, words),
-        compare::counts(waterfall, words),
-    )
+    compare::counts(audio, words)?;
+    compare::counts(waterfall, words)
 }

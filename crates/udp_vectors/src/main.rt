@@ -77,10 +77,7 @@ fn act(letter: u8, s: Session, fs: &mut [f32], us: &mut [u32], words: &[u32]) ->
 
 // An empty line is a comment.
 fn letter_of(line: &[u8]) -> u8 {
-    if 0 < line.len() {
-        return line[0];
-    }
-    b'#'
+    line.first().copied().unwrap_or(b'#')
 }
 
 // A line with words.
@@ -120,14 +117,12 @@ fn line_end(text: &[u8], at: usize) -> usize
     requires { at ≤ length text.now }
     ensures { (at ≤ result) × (result ≤ length text.now) }
 {
-    let mut end = at;
-    while end < text.len() {
+    for end in at..text.len() {
         if text[end] == b'\n' {
             return end;
         }
-        end += 1;
     }
-    end
+    text.len()
 }
 
 // Behind a line's end.

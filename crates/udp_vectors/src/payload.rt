@@ -45,13 +45,8 @@ fn with_room(p: &[u8], n: usize) -> usize
 }
 
 fn put_values(p: &mut [u8], words: &[u32]) {
-    let mut i = 4;
-    while i < words.len() {
-        if i > 16000 {
-            return;
-        }
+    for i in 4..words.len().min(16001) {
         put_u32(p, 4 * i - 10, words[i]);
-        i += 1;
     }
 }
 
@@ -60,10 +55,7 @@ pub(crate) fn chunk(p: &mut [u8], words: &[u32]) -> usize
     ensures { IsPrefixLen result p.new }
 {
     let n = words.len();
-    if n < 4 {
-        return 0;
-    }
-    if n > 16000 {
+    if n < 4 || n > 16000 {
         return 0;
     }
     put_header(p, words);
@@ -80,23 +72,19 @@ fn number(n: u32) -> f32 {
 fn ruled(rule: u32, bin: u32) -> f32 {
     let b = bin % 65536;
     let scattered = number(b * 25173 + 13849);
-    if rule == 0 {
-        return scattered / 512.0 - 100.0;
+    match rule {
+        0 => scattered / 512.0 - 100.0,
+        1 => -20.0 - scattered / 1024.0,
+        _ => number(b) - 255.0,
     }
-    if rule == 1 {
-        return -20.0 - scattered / 1024.0;
-    }
-    number(b) - 255.0
 }
 
 fn put_ruled(p: &mut [u8], first: u32, n: u32, rule: u32)
     requires { n ≤ 16378 }
 {
-    let mut j: u32 = 0;
-    while j < n {
+    for j in 0..n {
         let x = ruled(rule, first % 65536 + j);
         put_u32(p, (4 * j + 6) as usize, floats::to_bits(x));
-        j += 1;
     }
 }
 
@@ -114,10 +102,8 @@ pub(crate) fn ruled_chunk(p: &mut [u8], words: &[u32]) -> usize
 }
 
 fn put_bytes(p: &mut [u8], words: &[u32]) {
-    let mut i = 1;
-    while i < words.len() {
+    for i in 1..words.len() {
         put(p, i - 1, words[i]);
-        i += 1;
     }
 }
 

@@ -1,7 +1,6 @@
 // A line of output for each session, and how many there were.
-use crate::compare::{Difference, Verdict};
+use crate::compare::Difference;
 use calls::Side;
-use std::num::wrapping_add_u64;
 
 // A file descriptor.
 const STDOUT_FILENO: i32 = 1;
@@ -40,19 +39,14 @@ pub(crate) fn start(side: Side) -> Progress {
 
 pub(crate) fn next_line(p: Progress) -> Progress {
     Progress {
-        line: wrapping_add_u64(p.line, 1),
-        sessions: p.sessions,
-        wrong: p.wrong,
-        told: p.told,
+        line: p.line.wrapping_add(1),
+        ..p
     }
 }
 
 // The rest of a session's line.
 fn close(p: Progress) -> Progress {
-    if p.sessions == 0 {
-        return p;
-    }
-    if p.told {
+    if p.sessions == 0 || p.told {
         return p;
     }
     text(b"ok\n");
@@ -68,10 +62,9 @@ pub(crate) fn name(p: Progress, line: &[u8]) -> Progress {
     text(&line[2..]);
     text(b": ");
     Progress {
-        line: p.line,
-        sessions: wrapping_add_u64(p.sessions, 1),
-        wrong: p.wrong,
+        sessions: p.sessions.wrapping_add(1),
         told: false,
+        ..p
     }
 }
 
@@ -88,8 +81,8 @@ fn tell(line: u64, d: Difference) {
 }
 
 // The first difference of a session is told.
-pub(crate) fn note(p: Progress, v: Verdict) -> Progress {
-    let Verdict::Differs(d) = v else {
+pub(crate) fn note(p: Progress, v: Result<(), Difference>) -> Progress {
+    let Err(d) = v else {
         return p;
     };
     if p.told {
@@ -97,10 +90,9 @@ pub(crate) fn note(p: Progress, v: Verdict) -> Progress {
     }
     tell(p.line, d);
     Progress {
-        line: p.line,
-        sessions: p.sessions,
-        wrong: wrapping_add_u64(p.wrong, 1),
+        wrong: p.wrong.wrapping_add(1),
         told: true,
+        ..p
     }
 }
 

@@ -1,7 +1,7 @@
 // A receiver in the state that a session has come to, and the channel that the session is on. Both areas are lent to
 // each call.
 use crate::compare;
-use crate::compare::Verdict;
+use crate::compare::Difference;
 use crate::words::word;
 use audio_metrics::AudioMetrics;
 use calls::{Estimates, Settings, Side, Sizes};
@@ -26,7 +26,7 @@ pub struct Session {
     pub side: Side,
     pub receiver: Receiver,
     // The first difference since the session began.
-    pub found: Verdict,
+    pub found: Result<(), Difference>,
 }
 
 // The sound has the smallest sizes.
@@ -81,30 +81,24 @@ pub(crate) fn start(side: Side) -> Session {
     Session {
         side,
         receiver: no_receiver(),
-        found: Verdict::Same,
+        found: Ok(()),
     }
 }
 
 // What a look found.
-pub(crate) fn looked(s: Session, v: Verdict) -> Session {
-    let side = s.side;
-    let receiver = s.receiver;
-    let found = s.found;
+pub(crate) fn looked(s: Session, v: Result<(), Difference>) -> Session {
     Session {
-        side,
-        receiver,
-        found: compare::first(found, v),
+        found: s.found.and(v),
+        ..s
     }
 }
 
 // What a call left, and its answer against the one that is expected.
 fn called(s: Session, receiver: Receiver, answer: u32, expected: u32) -> Session {
-    let side = s.side;
-    let found = s.found;
     Session {
-        side,
         receiver,
-        found: compare::first(found, compare::answer(answer, expected)),
+        found: s.found.and(compare::answer(answer, expected)),
+        ..s
     }
 }
 

@@ -83,12 +83,10 @@ fn draw_columns(
         bin: 0,
         color: color_at(bins, 0, bottom, range, colors),
     };
-    let mut x = 0;
-    while x < width {
+    for x in 0..width {
         shown = shown_at(shown, bins, reach.bin, bottom, range, colors);
         buffer[x] = shown.color;
         reach = further(reach, by, width);
-        x += 1;
     }
 }
 
@@ -124,7 +122,7 @@ pub fn draw_row_db(
     requires { Drawable wf_width wf_height (length buffer.old) (length row_db.now) }
     ensures { buffer.new ≡ picture_after wf_width wf_height top_db range_db zoom row_db.now buffer.old }
 {
-    areas::move_up_u32(buffer, 0, wf_width, (wf_height - 1) * wf_width);
+    areas::move_up(buffer, 0, wf_width, (wf_height - 1) * wf_width);
     let window = spectrum_utils::zoom_window(row_db.len(), zoom);
     let start = window.start;
     let visible = window.end - start;

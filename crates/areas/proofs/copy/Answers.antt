@@ -1,23 +1,8 @@
-use mathlib.Core.Path.{◌≡◌, refl, ◌∙◌}
+-- `areas::copy` meets its contract. Assumes nothing.
 use native.Mathlib.Omega.{arith}
-use borrow.Author.Rules.{rules}
-use mathlib.Core.List.{[]}
-use Rattle.areas.proofs.Placed.{placed_none, copy_further}
+use Rattle.areas.proofs.PutBack.{part_put}
 use Rattle.areas.proofs.copy.Goals as goal
 
-pub loop-i-init : goal.loop-i-init
-loop-i-init c = (omega arith, placed_none c.args.to [] c.args.a.now refl, refl)
-
-pub loop-i-preserved : goal.loop-i-preserved
-loop-i-preserved c = let g = c.args in (
-  omega arith,
-  c.copy_few.ensures ∙ rw c.loop-i.invariant.1 (copy_further g.from g.to c.loop-i.i c.few_of-few.result g.b.now g.a.now (omega arith) (omega arith)),
-  search rules,
-)
-
-pub shape_of-a : goal.shape_of-a
-shape_of-a c = c.loop-i.invariant.2
-
 pub returns : goal.returns
-returns c = let all : c.loop-i.i ≡ c.args.n = omega arith in
-    rw all at c.loop-i.invariant.1
+returns g c = let q = c.args in
+    part_put q.to q.n q.from q.a.now q.b.now _ (omega arith) c.copy_from_slice.ensures.after

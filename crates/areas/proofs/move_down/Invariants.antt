@@ -6,7 +6,7 @@ use Rattle.areas.specs.Parts.{moved}
 use Rattle.areas.proofs.move_down.Given as goal
 
 abbrev pub invariant-loop-i : goal.invariant-loop-i
-invariant-loop-i l = (l.i ≤ l.n) × (l.a ≡ moved l.from l.to l.i l.initial.a) × (length l.a ≡ length l.initial.a)
+invariant-loop-i g l = (l.i ≤ l.n) × (l.a ≡ moved l.from l.to l.i l.initial.a) × (length l.a ≡ length l.initial.a)
 
 abbrev pub decreases-loop-i : goal.decreases-loop-i
-decreases-loop-i l = l.n - l.i
+decreases-loop-i g l = l.n - l.i

@@ -1,15 +1,13 @@
--- `areas::move_few` meets its contract. Assumes nothing.
-use mathlib.Core.Path.{refl, ◌∙◌}
+-- `areas::move_few` meets its contract, by the local copy and by `copy_within`. Assumes nothing.
 use native.Mathlib.Omega.{arith}
-use borrow.Author.Rules.{rules}
-use lib.Ieee.{nan}
-use Rattle.areas.proofs.Placed.{kept_then_placed}
+use mathlib.Core.Path.{◌∙◌}
+use Rattle.areas.proofs.PutBack.{part_put, copied_within}
 use Rattle.areas.proofs.move_few.Goals as goal
 
-pub slice_bounds-copy_each-end : goal.slice_bounds-copy_each-end
-slice_bounds-copy_each-end c = refl
+pub returns-then-size_of_val-le65536 : goal.returns-then-size_of_val-le65536
+returns-then-size_of_val-le65536 g c = let q = c.args in
+    part_put q.to q.n q.from q.a.now q.a.now _ (omega arith) (c.copy_from_slice-then-size_of_val-le65536.ensures.after ∙ c.copy_from_slice.ensures.after)
 
-pub returns : goal.returns
-returns c = let g = c.args in
-    c.copy_each-2.ensures
-    ∙ rw c.copy_each.ensures (kept_then_placed nan g.from g.to g.n g.a.now _ g.a.now (omega arith) (search rules))
+pub returns-else-size_of_val-le65536 : goal.returns-else-size_of_val-le65536
+returns-else-size_of_val-le65536 g c = let q = c.args in
+    c.copy_within.ensures.after ∙ copied_within q.to q.n q.from q.a.now (omega arith)

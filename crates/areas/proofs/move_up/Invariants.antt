@@ -6,7 +6,7 @@ use Rattle.areas.specs.Parts.{moved}
 use Rattle.areas.proofs.move_up.Given as goal
 
 abbrev pub invariant-loop-left : goal.invariant-loop-left
-invariant-loop-left l = (l.left ≤ l.n) × (l.a ≡ moved (l.from + l.left) (l.to + l.left) (l.n - l.left) l.initial.a) × (length l.a ≡ length l.initial.a)
+invariant-loop-left g l = (l.left ≤ l.n) × (l.a ≡ moved (l.from + l.left) (l.to + l.left) (l.n - l.left) l.initial.a) × (length l.a ≡ length l.initial.a)
 
 abbrev pub decreases-loop-left : goal.decreases-loop-left
-decreases-loop-left l = l.left
+decreases-loop-left g l = l.left

@@ -8,4 +8,4 @@ returns-in_default c = rw c.in_default.is
 
 pub returns : goal.returns
 unfolding depth_after
-returns c = rw (c.max.ensures, c.in-Known.is)
+returns c = rw (c.max.ensures, c.in-Some.is)

@@ -11,7 +11,8 @@ returns-then-offset_ns-geminus4611686018427387903 c = let back = to_z-of_z w64 c
     let above : le_z (negsuc 4611686018427387902) c.args.offset_ns ≡ true = rw back at c.if-offset_ns-geminus4611686018427387903.true in
     rw (back, above)
 
-pub returns : goal.returns
+pub returns-else-offset_ns-geminus4611686018427387903 : goal.returns-else-offset_ns-geminus4611686018427387903
 unfolding offset_allowed
-returns c = let below : le_z (negsuc 4611686018427387902) c.args.offset_ns ≡ false = rw (to_z-of_z w64 c.args.offset_ns c.ranges.offset_ns) at c.if-offset_ns-geminus4611686018427387903.false in
-    rw below
+returns-else-offset_ns-geminus4611686018427387903 c = let back = to_z-of_z w64 c.args.offset_ns c.ranges.offset_ns in
+    let below : le_z (negsuc 4611686018427387902) c.args.offset_ns ≡ false = rw back at c.if-offset_ns-geminus4611686018427387903.false in
+    rw (back, below)

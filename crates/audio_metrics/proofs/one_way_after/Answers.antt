@@ -7,23 +7,23 @@ use Rattle.audio_metrics.specs.Requires.{DelayFits}
 use Rattle.audio_metrics.proofs.Signed.{fits_wide_law}
 use Rattle.audio_metrics.proofs.one_way_after.Goals as goal
 
-pub returns-in_default : goal.returns-in_default
+pub returns-in-None : goal.returns-in-None
 unfolding one_way_after
-returns-in_default c = rw (c.in_default.is, to_z-of_z w64 c.args.new c.ranges.new)
+returns-in-None c = rw (c.in-None.is, to_z-of_z w64 c.args.new c.ranges.new)
 
 pub step_toward-requires : goal.step_toward-requires
 step_toward-requires c =
     let f : DelayFits (delay_of c.args.old) = c.requires.old_fits in
-    let g = rw c.in-Known.is at f in
+    let g = rw c.in-Some.is at f in
     record {
       divisor = refl;
       old_fits = rw (to_z-of_z w64 _ (fits_wide_law g)) g;
       new_fits = rw (to_z-of_z w64 c.args.new c.ranges.new) c.requires.new_fits;
     }
 
-pub returns : goal.returns
+pub returns-in-Some : goal.returns-in-Some
 unfolding one_way_after
-returns c =
+returns-in-Some c =
     let f : DelayFits (delay_of c.args.old) = c.requires.old_fits in
-    let g = rw c.in-Known.is at f in
-    rw (to_z-of_z w64 c.step_toward.result (record { sfits = c.step_toward.type_inv }), c.step_toward.ensures, to_z-of_z w64 _ (fits_wide_law g), to_z-of_z w64 c.args.new c.ranges.new, c.in-Known.is)
+    let g = rw c.in-Some.is at f in
+    rw (to_z-of_z w64 c.step_toward.result (record { sfits = c.step_toward.type_inv }), c.step_toward.ensures, to_z-of_z w64 _ (fits_wide_law g), to_z-of_z w64 c.args.new c.ranges.new, c.in-Some.is)

@@ -11,7 +11,8 @@ returns-then-one_way_ns-geminus1000000000 c = let back = to_z-of_z w64 c.args.on
     let above : le_z (negsuc 999999999) c.args.one_way_ns ≡ true = rw back at c.if-one_way_ns-geminus1000000000.true in
     rw (back, above)
 
-pub returns : goal.returns
+pub returns-else-one_way_ns-geminus1000000000 : goal.returns-else-one_way_ns-geminus1000000000
 unfolding one_way_in_range
-returns c = let below : le_z (negsuc 999999999) c.args.one_way_ns ≡ false = rw (to_z-of_z w64 c.args.one_way_ns c.ranges.one_way_ns) at c.if-one_way_ns-geminus1000000000.false in
-    rw below
+returns-else-one_way_ns-geminus1000000000 c = let back = to_z-of_z w64 c.args.one_way_ns c.ranges.one_way_ns in
+    let below : le_z (negsuc 999999999) c.args.one_way_ns ≡ false = rw back at c.if-one_way_ns-geminus1000000000.false in
+    rw (back, below)

@@ -9,7 +9,7 @@ unfolding probe_allowed
 returns-then-offset_in_range c = let told = rw (to_z-of_z w64 c.args.offset_ns c.ranges.offset_ns) at c.offset_in_range.ensures in
     rw (to_z-of_z w64 c.args.rtt_ns c.ranges.rtt_ns, ← told, c.if-offset_in_range.true)
 
-pub returns : goal.returns
+pub returns-else-offset_in_range : goal.returns-else-offset_in_range
 unfolding probe_allowed
-returns c = let told = rw (to_z-of_z w64 c.args.offset_ns c.ranges.offset_ns) at c.offset_in_range.ensures in
+returns-else-offset_in_range c = let told = rw (to_z-of_z w64 c.args.offset_ns c.ranges.offset_ns) at c.offset_in_range.ensures in
     rw (← told, c.if-offset_in_range.false)

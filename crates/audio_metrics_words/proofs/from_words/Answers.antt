@@ -4,4 +4,4 @@ use Rattle.audio_metrics_words.proofs.from_words.Goals as goal
 
 pub returns : goal.returns
 unfolding clock_in
-returns c = rw (c.timing_from-timing.ensures, c.one_way_from-one_way.ensures, c.jitter_from-jitter.ensures, c.float_from.ensures)
+returns c = rw (c.timing_from.ensures, c.one_way_from.ensures, c.jitter_from.ensures, c.float_from.ensures)

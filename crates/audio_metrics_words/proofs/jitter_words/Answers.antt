@@ -2,10 +2,10 @@
 use Rattle.audio_metrics_words.specs.Words.{depth_words}
 use Rattle.audio_metrics_words.proofs.jitter_words.Goals as goal
 
-pub returns-in_default : goal.returns-in_default
+pub returns-in-None : goal.returns-in-None
 unfolding depth_words
-returns-in_default c = rw c.in_default.is
+returns-in-None c = rw c.in-None.is
 
-pub returns : goal.returns
+pub returns-in-Some : goal.returns-in-Some
 unfolding depth_words
-returns c = rw (c.in-Known.is, c.float_word.ensures, c.float_word-2.ensures)
+returns-in-Some c = rw (c.in-Some.is, c.float_word.ensures, c.float_word-in-Some.ensures)

@@ -6,12 +6,12 @@ use Rattle.audio_metrics_words.specs.Words.{delay_words}
 use borrow.Author.Rules.{rules}
 use Rattle.audio_metrics_words.proofs.one_way_words.Goals as goal
 
-pub returns-in_default : goal.returns-in_default
+pub returns-in-None : goal.returns-in-None
 unfolding delay_words
-returns-in_default c = rw c.in_default.is
+returns-in-None c = rw c.in-None.is
 
-pub returns : goal.returns
+pub returns-in-Some : goal.returns-in-Some
 unfolding delay_words
-returns c = let fit : SFits w64 c.in-Known.n = search rules in
+returns-in-Some c = let fit : SFits w64 c.in-Some.n = search rules in
     let bits = rw (to_z-of_z w64 _ fit) at c.as_bits.ensures in
-    rw (c.in-Known.is, bits)
+    rw (c.in-Some.is, bits)

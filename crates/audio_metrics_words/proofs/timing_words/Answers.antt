@@ -6,12 +6,12 @@ use Rattle.audio_metrics_words.specs.Words.{timing_words}
 use borrow.Author.Rules.{rules}
 use Rattle.audio_metrics_words.proofs.timing_words.Goals as goal
 
-pub returns-in_default : goal.returns-in_default
+pub returns-in-None : goal.returns-in-None
 unfolding timing_words
-returns-in_default c = rw c.in_default.is
+returns-in-None c = rw c.in-None.is
 
-pub returns : goal.returns
+pub returns-in-Some : goal.returns-in-Some
 unfolding timing_words
-returns c = let fit : SFits w64 c.in-Known.t.offset_ns = search rules in
+returns-in-Some c = let fit : SFits w64 c.in-Some.t.offset_ns = search rules in
     let bits = rw (to_z-of_z w64 _ fit) at c.as_bits.ensures in
-    rw (c.in-Known.is, bits)
+    rw (c.in-Some.is, bits)

@@ -1,4 +1,5 @@
 -- `jitter_asking::start_held` meets its contract. Assumes nothing.
+use Rattle.std.proofs.Common.{rules}
 use native.Mathlib.Omega.{arith}
 use native.Mathlib.Nat.{mul_comm}
 use borrow.Author.Tests.{eq-eqb, ne_eqb}
@@ -13,16 +14,16 @@ overflow_mul-result c = let g = c.args in
 
 pub returns-then-j-eq0 : goal.returns-then-j-eq0
 unfolding next_asked
-returns-then-j-eq0 c = record { asked = rw (c.in-NotStarted.is, eq-eqb _ _ c.if-j-eq0.true); next = rw c.in-NotStarted.is tt }
+returns-then-j-eq0 c = record { asked = rw (c.in-None.is, eq-eqb _ _ c.if-j-eq0.true); next = rw c.in-None.is tt }
 
 pub returns-else-j-eq0 : goal.returns-else-j-eq0
 unfolding next_asked
-returns-else-j-eq0 c = record { asked = rw (c.in-NotStarted.is, ne_eqb _ _ c.if-j-eq0.false); next = rw c.in-NotStarted.is tt }
+returns-else-j-eq0 c = record { asked = rw (c.in-None.is, ne_eqb _ _ c.if-j-eq0.false); next = rw c.in-None.is tt }
 
 pub returns-then-j-eq0-2 : goal.returns-then-j-eq0-2
 unfolding next_asked
-returns-then-j-eq0-2 c = record { asked = rw (c.in-Next.is, eq-eqb _ _ c.if-j-eq0-2.true); next = rw c.in-Next.is (omega (arith, c.in-Next.known_told-1-own.given)) }
+returns-then-j-eq0-2 c = record { asked = rw (c.in-Some.is, eq-eqb _ _ c.if-j-eq0-2.true); next = rw c.in-Some.is (search rules) }
 
 pub returns-else-j-eq0-2 : goal.returns-else-j-eq0-2
 unfolding next_asked
-returns-else-j-eq0-2 c = record { asked = rw (c.in-Next.is, ne_eqb _ _ c.if-j-eq0-2.false); next = rw c.in-Next.is (omega (arith, c.in-Next.known_told-1-own.given)) }
+returns-else-j-eq0-2 c = record { asked = rw (c.in-Some.is, ne_eqb _ _ c.if-j-eq0-2.false); next = rw c.in-Some.is (search rules) }

@@ -19,5 +19,5 @@ move_down-requires c = omega (arith, rest_ends _ _ _ c.requires.place c.requires
 pub returns : goal.returns
 returns c = let g = c.args in
     let p = c.requires in
-    rw (c.move_down.ensures, c.move_down_u32.ensures)
+    rw (c.move_down.ensures, c.move_down-2.ensures)
     (closed_view g.z g.j g.fs.now g.us.now g.taken p.lent p.waiting p.place p.queue)

@@ -1,5 +1,5 @@
 -- `jitter_buffer::conceal_packet` meets its contract: the queue's end is within the part. Assumes nothing.
-use Rattle.std.proofs.Common.{ap, arith}
+use Rattle.std.proofs.Common.{refl, ap, arith}
 use Rattle.model.proofs.SizeLaws.{allowed}
 use lib.Ieee.{of_bits}
 use Rattle.model.specs.Framing.{next_sequence}
@@ -13,12 +13,6 @@ overflow_add-offsets c = omega (arith, ap (λ (o : Offsets). o.queue) c.section_
 pub fill-requires : goal.fill-requires
 fill-requires c = omega (arith, ap (λ (o : Offsets). o.queue) c.section_offsets-offsets.ensures, c.requires.0)
 
-pub overflow_add-b-3 : goal.overflow_add-b-3
-overflow_add-b-3 c = omega (arith, c.requires)
-
-pub overflow_add-b-4 : goal.overflow_add-b-4
-overflow_add-b-4 c = omega (arith, c.requires)
-
 pub returns : goal.returns
 unfolding next_sequence of_bits
-returns c = (rw (c.with_next-b.ensures, c.wrapping_add_u32.ensures.value), rw (ap (λ (o : Offsets). o.queue) c.section_offsets-offsets.ensures) at c.fill.ensures)
+returns c = (refl, rw (ap (λ (o : Offsets). o.queue) c.section_offsets-offsets.ensures) at c.fill.ensures)

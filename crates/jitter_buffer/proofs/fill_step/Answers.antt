@@ -13,12 +13,12 @@ returns-in_default c = rw (lt-ltb _ _ c.if-z-j.false, c.in_default.is)
 
 pub returns-then-j-taken : goal.returns-then-j-taken
 unfolding fill_step_of next_step
-returns-then-j-taken c = rw (lt-ltb _ _ c.if-z-j.false, c.in-Next.is, le-ltb _ _ c.if-j-taken.true)
+returns-then-j-taken c = rw (lt-ltb _ _ c.if-z-j.false, c.in-Some.is, le-ltb _ _ c.if-j-taken.true)
 
 pub returns-then-us-taken : goal.returns-then-us-taken
 unfolding fill_step_of next_step
-returns-then-us-taken c = rw (lt-ltb _ _ c.if-z-j.false, c.in-Next.is, lt-ltb _ _ c.if-j-taken.false, eq-eqb _ _ c.if-us-taken.true)
+returns-then-us-taken c = rw (lt-ltb _ _ c.if-z-j.false, c.in-Some.is, lt-ltb _ _ c.if-j-taken.false, eq-eqb _ _ c.if-us-taken.true)
 
 pub returns-else-us-taken : goal.returns-else-us-taken
 unfolding fill_step_of next_step
-returns-else-us-taken c = rw (lt-ltb _ _ c.if-z-j.false, c.in-Next.is, lt-ltb _ _ c.if-j-taken.false, ne_eqb _ _ c.if-us-taken.false)
+returns-else-us-taken c = rw (lt-ltb _ _ c.if-z-j.false, c.in-Some.is, lt-ltb _ _ c.if-j-taken.false, ne_eqb _ _ c.if-us-taken.false)

@@ -1,5 +1,5 @@
 -- `jitter_buffer::move_packet` meets its contract: the place and the queue's end are within the part. Assumes nothing.
-use Rattle.std.proofs.Common.{ap, arith}
+use Rattle.std.proofs.Common.{refl, ap, arith}
 use Rattle.model.proofs.SizeLaws.{allowed}
 use Rattle.model.specs.Framing.{next_sequence}
 use Rattle.sizes.specs.declared.Offsets.{Offsets}
@@ -17,4 +17,4 @@ move_up-requires c = omega (arith, ap (λ (o : Offsets). o.queue) c.section_offs
 
 pub returns : goal.returns
 unfolding next_sequence
-returns c = (rw (c.with_next-b.ensures, c.wrapping_add_u32.ensures.value), rw (ap (λ (o : Offsets). o.queue) c.section_offsets-offsets.ensures) at c.move_up.ensures)
+returns c = (refl, rw (ap (λ (o : Offsets). o.queue) c.section_offsets-offsets.ensures) at c.move_up.ensures)

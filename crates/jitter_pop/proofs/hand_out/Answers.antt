@@ -11,19 +11,19 @@ pub overflow_add-from : goal.overflow_add-from
 overflow_add-from c = omega (arith, ap (λ (o : Offsets). o.queue) c.section_offsets-offsets.ensures, queue_low _ c.requires.allowed, allowed _ c.requires.allowed, c.requires)
 
 pub overflow_add-after : goal.overflow_add-after
-overflow_add-after c = omega (arith, ap (λ (o : Offsets). o.queue) c.section_offsets-offsets.ensures, c.least-taken.ensures, queue_low _ c.requires.allowed, allowed _ c.requires.allowed, c.requires)
+overflow_add-after c = omega (arith, ap (λ (o : Offsets). o.queue) c.section_offsets-offsets.ensures, c.min-taken.ensures, queue_low _ c.requires.allowed, allowed _ c.requires.allowed, c.requires)
 
 pub copy-requires : goal.copy-requires
-copy-requires c = omega (arith, ap (λ (o : Offsets). o.queue) c.section_offsets-offsets.ensures, c.least-taken.ensures, c.requires)
+copy-requires c = omega (arith, ap (λ (o : Offsets). o.queue) c.section_offsets-offsets.ensures, c.min-taken.ensures, c.requires)
 
 pub move_down-requires : goal.move_down-requires
-move_down-requires c = omega (arith, ap (λ (o : Offsets). o.queue) c.section_offsets-offsets.ensures, c.least-taken.ensures, c.requires)
+move_down-requires c = omega (arith, ap (λ (o : Offsets). o.queue) c.section_offsets-offsets.ensures, c.min-taken.ensures, c.requires)
 
 pub returns : goal.returns
 unfolding of_bits
 returns c = let q = ap (λ (o : Offsets). o.queue) c.section_offsets-offsets.ensures in
     record {
-      took = c.least-taken.ensures;
+      took = c.min-taken.ensures;
       drops = refl;
       lacks = refl;
       buffer = refl;

@@ -7,9 +7,6 @@ use Rattle.text.proofs.FittedLaws.{fitted_behind}
 use Rattle.lines.proofs.Pieces.{byte_fitted}
 use Rattle.lines.proofs.put_dash.Goals as goal
 
-pub bounds-out-at-2 : goal.bounds-out-at-2
-bounds-out-at-2 c = simp length-set (omega arith)
-
 pub returns : goal.returns
 returns c = let g = c.args in
     let end : g.at + 2 ≡ g.at + 1 + 1 = omega arith in

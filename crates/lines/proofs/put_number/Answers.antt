@@ -1,15 +1,15 @@
 -- `lines::put_number` meets its contract: both parts fit. Assumes nothing.
-use native.Mathlib.Omega.{arith}
-use Rattle.lines.proofs.WordLaws.{had_room, number_had_room, number_fitted}
+use Rattle.std.proofs.Common.{arith}
+use Rattle.model.specs.Replay.{decimal}
+use Rattle.text.proofs.FittedLaws.{some_answered}
+use Rattle.lines.proofs.WordLaws.{digits_few, word_answered, word_fitted}
 use Rattle.lines.proofs.put_number.Goals as goal
 
-pub returns-in_default : goal.returns-in_default
-returns-in_default c = absurd (had_room (rw c.in_default.is at c.put_byte-space.ensures) (omega arith))
+pub unwrap-from-requires : goal.unwrap-from-requires
+unwrap-from-requires c = some_answered c.put_byte.ensures (omega arith)
 
-pub returns-in_default-digits : goal.returns-in_default-digits
-returns-in_default-digits c = absurd
-    (number_had_room c.args.n (rw c.in-Next.is at c.put_byte-space.ensures) (rw c.in_default-digits.is at c.put_decimal-digits.ensures)
-    (omega arith) c.requires)
+pub unwrap-requires : goal.unwrap-requires
+unwrap-requires c = word_answered (decimal c.args.n) c.put_byte.ensures c.unwrap-from.ensures c.put_decimal.ensures (omega (arith, digits_few c.args.n (omega arith)))
 
 pub returns : goal.returns
-returns c = number_fitted c.args.n (rw c.in-Next.is at c.put_byte-space.ensures) (rw c.in-Next-digits.is at c.put_decimal-digits.ensures)
+returns c = word_fitted (decimal c.args.n) c.put_byte.ensures c.unwrap-from.ensures c.put_decimal.ensures c.unwrap.ensures

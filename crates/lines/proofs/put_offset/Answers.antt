@@ -8,12 +8,12 @@ use Rattle.model.specs.Replay.{or_dash}
 use borrow.Author.Rules.{rules}
 use Rattle.lines.proofs.put_offset.Goals as goal
 
-pub returns-in-Unknown : goal.returns-in-Unknown
+pub returns-in-None : goal.returns-in-None
 unfolding or_dash
-returns-in-Unknown c = rw c.in-Unknown.is (c.put_dash.ensures, omega (arith, c.put_dash.ensures.place))
+returns-in-None c = rw c.in-None.is (c.put_dash.ensures, omega (arith, c.put_dash.ensures.place))
 
-pub returns-in-Known : goal.returns-in-Known
+pub returns-in-Some : goal.returns-in-Some
 unfolding or_dash
-returns-in-Known c = let fits : SFits w64 c.in-Known.t.offset_ns = search rules in
-    let told = rw (to_z-of_z w64 c.in-Known.t.offset_ns fits) at c.put_signed.ensures in
-    rw c.in-Known.is (told, omega (arith, told.place, signed_few c.in-Known.t.offset_ns fits))
+returns-in-Some c = let fits : SFits w64 c.in-Some.t.offset_ns = search rules in
+    let told = rw (to_z-of_z w64 c.in-Some.t.offset_ns fits) at c.put_signed.ensures in
+    rw c.in-Some.is (told, omega (arith, told.place, signed_few c.in-Some.t.offset_ns fits))

@@ -7,11 +7,11 @@ use Rattle.model.specs.Replay.{or_dash, signed_decimal}
 use borrow.Author.Rules.{rules}
 use Rattle.lines.proofs.put_round_trip.Goals as goal
 
-pub returns-in-Unknown : goal.returns-in-Unknown
+pub returns-in-None : goal.returns-in-None
 unfolding or_dash
-returns-in-Unknown c = rw c.in-Unknown.is (c.put_dash.ensures, omega (arith, c.put_dash.ensures.place))
+returns-in-None c = rw c.in-None.is (c.put_dash.ensures, omega (arith, c.put_dash.ensures.place))
 
-pub returns-in-Known : goal.returns-in-Known
+pub returns-in-Some : goal.returns-in-Some
 unfolding or_dash signed_decimal
-returns-in-Known c = let fits : Fits w64 c.in-Known.t.rtt_ns = search rules in
-    rw c.in-Known.is (c.put_number.ensures, omega (arith, c.put_number.ensures.place, digits_few c.in-Known.t.rtt_ns (omega arith)))
+returns-in-Some c = let fits : Fits w64 c.in-Some.t.rtt_ns = search rules in
+    rw c.in-Some.is (c.put_number.ensures, omega (arith, c.put_number.ensures.place, digits_few c.in-Some.t.rtt_ns (omega arith)))

@@ -1,24 +1,19 @@
 -- `lines::put_signed` meets its contract: both parts fit. Assumes nothing.
-use native.Mathlib.Omega.{arith}
-use mir.Syntax.{w64}
-use mir.Val.{SFits}
-use mir.ValLaws.{to_z-of_z}
-use Rattle.lines.proofs.WordLaws.{had_room, signed_had_room, signed_fitted}
-use borrow.Author.Rules.{rules}
+use Rattle.std.proofs.Common.{arith, w64}
+use Rattle.std.proofs.lemmas.Int.{to_z-of_z}
+use Rattle.model.specs.Replay.{signed_decimal}
+use Rattle.text.proofs.FittedLaws.{some_answered}
+use Rattle.lines.proofs.WordLaws.{signed_few, word_answered, word_fitted}
 use Rattle.lines.proofs.put_signed.Goals as goal
 
-pub returns-in_default : goal.returns-in_default
-returns-in_default c = absurd (had_room (rw c.in_default.is at c.put_byte-space.ensures) (omega arith))
+pub unwrap-from-requires : goal.unwrap-from-requires
+unwrap-from-requires c = some_answered c.put_byte.ensures (omega arith)
 
-pub returns-in_default-digits : goal.returns-in_default-digits
-returns-in_default-digits c = let g = c.args in
-    let fits : SFits w64 g.n = search rules in
-    absurd
-    (signed_had_room g.n (rw c.in-Next.is at c.put_byte-space.ensures)
-    (rw (c.in_default-digits.is, to_z-of_z w64 g.n fits) at c.put_signed-digits.ensures) fits c.requires)
+pub unwrap-requires : goal.unwrap-requires
+unwrap-requires c = let g = c.args in
+    word_answered (signed_decimal g.n) c.put_byte.ensures c.unwrap-from.ensures (rw (to_z-of_z w64 g.n c.ranges.n) at c.put_signed.ensures)
+    (omega (arith, signed_few g.n c.ranges.n))
 
 pub returns : goal.returns
 returns c = let g = c.args in
-    let fits : SFits w64 g.n = search rules in
-    signed_fitted g.n (rw c.in-Next.is at c.put_byte-space.ensures)
-    (rw (c.in-Next-digits.is, to_z-of_z w64 g.n fits) at c.put_signed-digits.ensures)
+    word_fitted (signed_decimal g.n) c.put_byte.ensures c.unwrap-from.ensures (rw (to_z-of_z w64 g.n c.ranges.n) at c.put_signed.ensures) c.unwrap.ensures

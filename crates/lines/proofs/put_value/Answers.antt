@@ -1,16 +1,17 @@
 -- `lines::put_value` meets its contract: both parts fit. Assumes nothing.
-use native.Mathlib.Omega.{arith}
-use Rattle.lines.proofs.WordLaws.{had_room, value_had_room, value_fitted}
+use Rattle.std.proofs.Common.{arith}
+use Rattle.model.specs.Replay.{hex_bits}
+use Rattle.text.proofs.FittedLaws.{some_answered}
+use Rattle.lines.proofs.WordLaws.{bits_length, word_answered, word_fitted}
 use Rattle.lines.proofs.put_value.Goals as goal
 
-pub returns-in_default : goal.returns-in_default
-returns-in_default c = absurd (had_room (rw c.in_default.is at c.put_byte-space.ensures) (omega arith))
+pub unwrap-from-requires : goal.unwrap-from-requires
+unwrap-from-requires c = some_answered c.put_byte.ensures (omega arith)
 
-pub returns-in_default-digits : goal.returns-in_default-digits
-returns-in_default-digits c = absurd
-    (value_had_room _ (rw c.in-Next.is at c.put_byte-space.ensures) (rw c.in_default-digits.is at c.put_hex-digits.ensures)
-    c.requires)
+pub unwrap-requires : goal.unwrap-requires
+unfolding hex_bits
+unwrap-requires c = word_answered (hex_bits c.args.x) c.put_byte.ensures c.unwrap-from.ensures (rw c.to_bits.ensures at c.put_hex.ensures) (omega (arith, bits_length c.args.x))
 
 pub returns : goal.returns
-returns c = value_fitted c.args.x (rw c.in-Next.is at c.put_byte-space.ensures)
-    (rw (c.in-Next-digits.is, c.to_bits.ensures) at c.put_hex-digits.ensures)
+unfolding hex_bits
+returns c = word_fitted (hex_bits c.args.x) c.put_byte.ensures c.unwrap-from.ensures (rw c.to_bits.ensures at c.put_hex.ensures) c.unwrap.ensures

@@ -8,27 +8,20 @@ use Rattle.playback_files.specs.declared.Ending.TheVariants as Ending
 use Rattle.playback_files.proofs.Known.{ends_here}
 use Rattle.playback_files.proofs.next_window.Goals as goal
 
-pub slice_bounds-by_window-end : goal.slice_bounds-by_window-end
-slice_bounds-by_window-end c = let read = rw c.in-Bytes.is at c.read_part-part.ensures in
+pub slice_bounds-read-end : goal.slice_bounds-read-end
+slice_bounds-read-end c = let read = c.in-Ok.ensures in
     omega (arith, read.0, c.window-1.given)
 
-pub slice_bounds-by_window-end-in-Bytes : goal.slice_bounds-by_window-end-in-Bytes
-slice_bounds-by_window-end-in-Bytes c = let read = rw c.in-Bytes.is at c.read_part-part.ensures in
-    simp length-take (omega (arith, read.0, c.window-1.given))
-
 pub by_window-requires : goal.by_window-requires
-by_window-requires c = let read = rw c.in-Bytes.is at c.read_part-part.ensures in (
+by_window-requires c = let read = c.in-Ok.ensures in (
   simp length-take (omega (arith, read.0, c.requires.0)),
   c.requires.1,
   λ more. rw (full_where_more _ c.args.file.now.bytes (4 * c.args.p.base) (length c.args.window.now) _ _ read.0 read.1 c.window-1.given more).1 c.requires.2,
 )
 
-pub returns-in-Unreadable : goal.returns-in-Unreadable
-returns-in-Unreadable c = (tt, ends_here c.args.p.base c.args.p.playback c.args.fs.now c.args.us.now c.args.samples.now Ending.Unreadable tt, tt)
+pub returns-in-Err : goal.returns-in-Err
+returns-in-Err c = (tt, ends_here c.args.p.base c.args.p.playback c.args.fs.now c.args.us.now c.args.samples.now (Ending.Failed c.in-Err.failure) tt, tt)
 
-pub returns-in-Shorter : goal.returns-in-Shorter
-returns-in-Shorter c = (tt, ends_here c.args.p.base c.args.p.playback c.args.fs.now c.args.us.now c.args.samples.now Ending.Shorter tt, tt)
-
-pub returns-in-Bytes : goal.returns-in-Bytes
-returns-in-Bytes c = let read = rw c.in-Bytes.is at c.read_part-part.ensures in
+pub returns-in-Ok : goal.returns-in-Ok
+returns-in-Ok c = let read = c.in-Ok.ensures in
     (c.by_window.ensures.0, known_by_window c.args.file.now (length c.args.window.now) c.args.p.base _ _ _ read.0 read.1 c.window-1.given c.by_window.ensures.1, c.by_window.ensures.2)

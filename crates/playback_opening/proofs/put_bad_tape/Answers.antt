@@ -5,4 +5,4 @@ use Rattle.playback_parts.proofs.Texts.{piece_put}
 use Rattle.playback_opening.proofs.put_bad_tape.Goals as goal
 
 pub returns : goal.returns
-returns c = rw (bad_tape_line_is c.args.place) (piece_put (omega (arith, c.requires)) c.put_line-line.ensures c.length_put.ensures)
+returns c = rw (bad_tape_line_is c.args.place) (piece_put (omega (arith, c.requires)) c.put_line.ensures c.unwrap.ensures)

@@ -5,4 +5,4 @@ use Rattle.playback_parts.proofs.Texts.{piece_put}
 use Rattle.playback_opening.proofs.put_refused.Goals as goal
 
 pub returns : goal.returns
-returns c = rw (refused_line_is c.args.n) (piece_put (omega (arith, c.requires)) c.put_line-line.ensures c.length_put.ensures)
+returns c = rw (refused_line_is c.args.n) (piece_put (omega (arith, c.requires)) c.put_line.ensures c.unwrap.ensures)

@@ -7,10 +7,10 @@ pub returns-then-payload-lt6 : goal.returns-then-payload-lt6
 returns-then-payload-lt6 c = too_short_law c.args.payload.now c.if-payload-lt6.true
 
 pub returns-then-total_bins-eq0 : goal.returns-then-total_bins-eq0
-returns-then-total_bins-eq0 c = no_bins c.args.payload.now c.if-payload-lt6.false c.read_u16-total_bins.result c.read_u16-bin_offset.result c.read_u16-total_bins.ensures c.read_u16-bin_offset.ensures c.if-total_bins-eq0.true
+returns-then-total_bins-eq0 c = no_bins c.args.payload.now c.if-payload-lt6.false c.read_from-total_bins.result c.read_from-bin_offset.result c.read_from-total_bins.ensures c.read_from-bin_offset.ensures c.if-total_bins-eq0.true
 
 pub returns-then-left-ne0 : goal.returns-then-left-ne0
-returns-then-left-ne0 c = part_of_a_value c.args.payload.now c.if-payload-lt6.false c.read_u16-total_bins.result c.read_u16-bin_offset.result c.read_u16-total_bins.ensures c.read_u16-bin_offset.ensures (omega (arith, c.if-total_bins-eq0.false)) c.if-left-ne0.true
+returns-then-left-ne0 c = part_of_a_value c.args.payload.now c.if-payload-lt6.false c.read_from-total_bins.result c.read_from-bin_offset.result c.read_from-total_bins.ensures c.read_from-bin_offset.ensures (omega (arith, c.if-total_bins-eq0.false)) c.if-left-ne0.true
 
 pub returns : goal.returns
-returns c = inside_or_not c.args.payload.now c.if-payload-lt6.false c.read_u16-total_bins.result c.read_u16-bin_offset.result c.read_u16-total_bins.ensures c.read_u16-bin_offset.ensures (omega (arith, c.if-total_bins-eq0.false)) c.if-left-ne0.false
+returns c = inside_or_not c.args.payload.now c.if-payload-lt6.false c.read_from-total_bins.result c.read_from-bin_offset.result c.read_from-total_bins.ensures c.read_from-bin_offset.ensures (omega (arith, c.if-total_bins-eq0.false)) c.if-left-ne0.false

@@ -10,12 +10,12 @@ returns-in_default c = c.open_row.ensures ∙ rw c.in_default.is
 
 pub returns-then-current-row_seq : goal.returns-then-current-row_seq
 unfolding row_for
-returns-then-current-row_seq c = c.open_row-then-current-row_seq.ensures ∙ rw (c.in-Open.is, ne_eqb _ _ c.if-current-row_seq.true)
+returns-then-current-row_seq c = c.open_row-then-current-row_seq.ensures ∙ rw (c.in-Some.is, ne_eqb _ _ c.if-current-row_seq.true)
 
 pub returns-then-current-total_bins : goal.returns-then-current-total_bins
 unfolding row_for
-returns-then-current-total_bins c = c.open_row-then-current-total_bins.ensures ∙ rw (c.in-Open.is, eq-eqb _ _ c.if-current-row_seq.false, ne_eqb _ _ c.if-current-total_bins.true)
+returns-then-current-total_bins c = c.open_row-then-current-total_bins.ensures ∙ rw (c.in-Some.is, eq-eqb _ _ c.if-current-row_seq.false, ne_eqb _ _ c.if-current-total_bins.true)
 
 pub returns : goal.returns
 unfolding row_for
-returns c = rw (c.in-Open.is, eq-eqb _ _ c.if-current-row_seq.false, eq-eqb _ _ c.if-current-total_bins.false)
+returns c = rw (c.in-Some.is, eq-eqb _ _ c.if-current-row_seq.false, eq-eqb _ _ c.if-current-total_bins.false)

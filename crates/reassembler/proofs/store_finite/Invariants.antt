@@ -9,6 +9,3 @@ use Rattle.reassembler.proofs.store_finite.Given as goal
 
 abbrev pub invariant-loop-j : goal.invariant-loop-j
 invariant-loop-j l = (l.j ≤ l.n) × PrefixPast (floats_of l.bytes) l.j × (l.buf ≡ placed l.first (take l.j (floats_of l.bytes)) l.initial.buf) × (length l.buf ≡ length l.initial.buf)
-
-abbrev pub decreases-loop-j : goal.decreases-loop-j
-decreases-loop-j l = l.n - l.j

@@ -38,20 +38,20 @@ pub count_call-requires : goal.count_call-requires
 count_call-requires c = let e = rw c.count_header-begun.ensures at c.waterfall_on-shown.ensures.shown.uncounted in
     rw e c.requires.0.ready.calls
 
-pub count_call-requires-in-Bins : goal.count_call-requires-in-Bins
-count_call-requires-in-Bins c = let e = rw c.count_header-begun.ensures at c.waterfall_on-shown.ensures.shown.uncounted in
+pub count_call-requires-in-Some : goal.count_call-requires-in-Some
+count_call-requires-in-Some c = let e = rw c.count_header-begun.ensures at c.waterfall_on-shown.ensures.shown.uncounted in
     rw e c.requires.0.ready.calls
 
-pub returns-in-NoRow : goal.returns-in-NoRow
-returns-in-NoRow c = let g = c.args in
+pub returns-in-None : goal.returns-in-None
+returns-in-None c = let g = c.args in
     let words : WordsFit g.us.now = λ i. (c.slice_known-2-1.given i).fits in
     let are = bytes_are g.bytes.now c.shared_slice_known-1.given in
     let taken = rw (c.count_header-begun.ensures, whole_end 16 g.bytes.now) at c.waterfall_on-shown.ensures in
-    rw c.count_call.ensures (none_completed g.r g.fs.now g.us.now g.bytes.now g.header c.requires.0 words are g.side c.requires.1 c.counted_on-counts.result c.counted_on-counts.ensures c.waterfall_on-shown.result c.waterfall_on-shown.new.fs c.waterfall_on-shown.new.us taken c.in-NoRow.is)
+    rw c.count_call.ensures (none_completed g.r g.fs.now g.us.now g.bytes.now g.header c.requires.0 words are g.side c.requires.1 c.counted_on-counts.result c.counted_on-counts.ensures c.waterfall_on-shown.result c.waterfall_on-shown.new.fs c.waterfall_on-shown.new.us taken c.in-None.is)
 
-pub returns-in-Bins : goal.returns-in-Bins
-returns-in-Bins c = let g = c.args in
+pub returns-in-Some : goal.returns-in-Some
+returns-in-Some c = let g = c.args in
     let words : WordsFit g.us.now = λ i. (c.slice_known-2-1.given i).fits in
     let are = bytes_are g.bytes.now c.shared_slice_known-1.given in
     let taken = rw (c.count_header-begun.ensures, whole_end 16 g.bytes.now) at c.waterfall_on-shown.ensures in
-    rw c.count_call-in-Bins.ensures (one_completed g.r g.fs.now g.us.now g.bytes.now g.header c.requires.0 words are g.side c.requires.1 c.counted_on-counts.result c.counted_on-counts.ensures c.waterfall_on-shown.result c.waterfall_on-shown.new.fs c.waterfall_on-shown.new.us taken _ c.in-Bins.is)
+    rw c.count_call-in-Some.ensures (one_completed g.r g.fs.now g.us.now g.bytes.now g.header c.requires.0 words are g.side c.requires.1 c.counted_on-counts.result c.counted_on-counts.ensures c.waterfall_on-shown.result c.waterfall_on-shown.new.fs c.waterfall_on-shown.new.us taken _ c.in-Some.is)

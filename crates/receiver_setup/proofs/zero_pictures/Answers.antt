@@ -11,18 +11,18 @@ pub overflow_mul-n : goal.overflow_mul-n
 overflow_mul-n c = let g = c.args in
     omega (arith, picture_bound (sizes_of g.z) c.requires.allowed)
 
-pub fill_u32-requires : goal.fill_u32-requires
-fill_u32-requires c = let g = c.args in
+pub fill-requires : goal.fill-requires
+fill-requires c = let g = c.args in
     rw c.most_waiting-at.ensures (first_fits g.z g.us.now c.requires)
 
 pub overflow_add-start : goal.overflow_add-start
 overflow_add-start c = let g = c.args in
     omega (arith, c.word_section-start.ensures, c.most_waiting-at.ensures, word_section_bound (sizes_of g.z) c.requires.allowed, most_waiting_bound (sizes_of g.z) c.requires.allowed)
 
-pub fill_u32-requires-2 : goal.fill_u32-requires-2
-fill_u32-requires-2 c = let g = c.args in
-    omega (arith, c.fill_u32.auto, c.word_section-start.ensures, c.most_waiting-at.ensures, c.requires.words, word_area_is (sizes_of g.z), word_section_is (sizes_of g.z))
+pub fill-requires-2 : goal.fill-requires-2
+fill-requires-2 c = let g = c.args in
+    omega (arith, c.fill.auto, c.word_section-start.ensures, c.most_waiting-at.ensures, c.requires.words, word_area_is (sizes_of g.z), word_section_is (sizes_of g.z))
 
 pub returns : goal.returns
 returns c = let g = c.args in
-    both_zeroed g.z g.us.now c.requires _ _ _ _ c.word_section-start.ensures c.most_waiting-at.ensures c.fill_u32.ensures c.fill_u32-2.ensures
+    both_zeroed g.z g.us.now c.requires _ _ _ _ c.word_section-start.ensures c.most_waiting-at.ensures c.fill.ensures c.fill-2.ensures

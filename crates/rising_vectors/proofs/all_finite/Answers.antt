@@ -18,17 +18,17 @@ all_goes_on : (values : List Float) (i : ℕ) → i < length values → finite (
 unfolding all
 all_goes_on values i h e = rw (drop-cons values i nan h, e, add-one)
 
-pub loop-i-init : goal.loop-i-init
-loop-i-init c = (omega arith, refl)
+pub loop-x-init : goal.loop-x-init
+loop-x-init c = refl
 
 pub returns-then-not-is_finite : goal.returns-then-not-is_finite
 returns-then-not-is_finite c = let values = c.args.values.now in
-    sym (all_fails values c.loop-i.i (omega arith) (sym c.is_finite.ensures ∙ not-true c.is_finite.result c.if-not-is_finite.true-raw)) ∙ c.loop-i.invariant.1
+    sym (all_fails values c.loop-x.x-index (omega arith) (sym c.is_finite.ensures ∙ not-true c.is_finite.result c.if-not-is_finite.true-raw)) ∙ c.loop-x.invariant
 
-pub loop-i-preserved : goal.loop-i-preserved
-loop-i-preserved c = let values = c.args.values.now in
-    let more = all_goes_on values c.loop-i.i (omega arith) (sym c.is_finite.ensures ∙ not-false c.is_finite.result c.if-not-is_finite.false-raw) in
-    (omega arith, sym more ∙ c.loop-i.invariant.1)
+pub loop-x-preserved : goal.loop-x-preserved
+loop-x-preserved c = let values = c.args.values.now in
+    let more = all_goes_on values c.loop-x.x-index (omega arith) (sym c.is_finite.ensures ∙ not-false c.is_finite.result c.if-not-is_finite.false-raw) in
+    sym more ∙ c.loop-x.invariant
 
 pub returns : goal.returns
-returns c = sym (all_ends c.args.values.now c.loop-i.i (omega arith)) ∙ c.loop-i.invariant.1
+returns c = sym (all_ends c.args.values.now c.loop-x.x-index (omega arith)) ∙ c.loop-x.invariant

@@ -1,23 +1,25 @@
--- `text::put_signed` meets its contract: a number that is not below 0 is its decimal, and one below 0 is turned. Assumes nothing.
-use Rattle.std.proofs.Common.{lit≤, w64}
-use Rattle.std.proofs.num.Nearest.{plain}
-use Rattle.text.proofs.SignedLaws.{below_zero, not_below_zero}
+-- `text::put_signed` meets its contract: behind the sign stands the magnitude. Assumes nothing.
+use Rattle.std.proofs.Common.{◌≡◌, true, false, ℤ, pos, negsuc, ◌∷◌, refl, w64, arith, unsigned_abs}
+use Rattle.std.proofs.lemmas.Int.{to_z-of_z}
+use lib.Signed.{lt_z}
+use borrow.Author.Tests.{ltb-true}
+use Rattle.model.specs.Replay.{decimal, signed_decimal}
 use Rattle.text.proofs.put_signed.Goals as goal
 
-pub overflow_cast-n : goal.overflow_cast-n
-overflow_cast-n c = (plain w64 c.args.n (lit≤ tt) c.ranges.n c.if-n-ge0.true).0
+below_zero : (z : ℤ) → lt_z z (pos 0) ≡ true → 45 ∷ decimal (unsigned_abs z) ≡ signed_decimal z
+unfolding signed_decimal
+below_zero (pos n) test = absurd (omega (arith, ltb-true n 0 test))
+below_zero (negsuc n) test = refl
 
-pub returns-then-n-ge0 : goal.returns-then-n-ge0
-returns-then-n-ge0 c = rw (not_below_zero c.args.n _ (plain w64 c.args.n (lit≤ tt) c.ranges.n c.if-n-ge0.true).1) at c.put_decimal.ensures
+not_below_zero : (z : ℤ) → lt_z z (pos 0) ≡ false → decimal (unsigned_abs z) ≡ signed_decimal z
+unfolding signed_decimal
+not_below_zero (pos n) test = refl
+not_below_zero (negsuc n) test = cc
 
-pub overflow_sub-n : goal.overflow_sub-n
-overflow_sub-n c = (below_zero c.args.n c.ranges.n c.if-n-ge0.false).difference
+pub returns-then-n-lt0 : goal.returns-then-n-lt0
+returns-then-n-lt0 c = let back = to_z-of_z w64 c.args.n c.ranges.n in
+    rw (c.unsigned_abs.ensures.value, back, below_zero c.args.n (rw back at c.if-n-lt0.true)) at c.put_negative.ensures
 
-pub overflow_cast-n-2 : goal.overflow_cast-n-2
-overflow_cast-n-2 c = (below_zero c.args.n c.ranges.n c.if-n-ge0.false).cast
-
-pub overflow_add-n : goal.overflow_add-n
-overflow_add-n c = (below_zero c.args.n c.ranges.n c.if-n-ge0.false).sum
-
-pub returns : goal.returns
-returns c = rw (below_zero c.args.n c.ranges.n c.if-n-ge0.false).text c.put_negative.ensures
+pub returns-else-n-lt0 : goal.returns-else-n-lt0
+returns-else-n-lt0 c = let back = to_z-of_z w64 c.args.n c.ranges.n in
+    rw (c.unsigned_abs-else-n-lt0.ensures.value, back, not_below_zero c.args.n (rw back at c.if-n-lt0.false)) at c.put_decimal.ensures

@@ -6,6 +6,3 @@ use Rattle.udp.proofs.move_toward.Given as goal
 
 abbrev pub invariant-loop-i : goal.invariant-loop-i
 invariant-loop-i l = (l.i ≤ l.bins) × (l.rows ≡ zipped_at (smoothed l.w) l.smooth l.i l.initial.rows) × (length l.rows ≡ length l.initial.rows)
-
-abbrev pub decreases-loop-i : goal.decreases-loop-i
-decreases-loop-i l = l.bins - l.i

@@ -11,14 +11,14 @@ returns-in_default c = rw c.in_default.is (simp add-zero)
 pub returns-then-sequence-expected : goal.returns-then-sequence-expected
 unfolding counted dropped_by late_by is_below next_sequence
 returns-then-sequence-expected c = let s = c.args.sequence in
-    rw (c.in-Known.is, ← c.wrapping_add_u32-expected.ensures.value, lt-ltb c.wrapping_add_u32-expected.result s c.if-sequence-expected.true, le-ltb s c.wrapping_add_u32-expected.result (omega (arith, c.if-sequence-expected.true))) (simp add-zero)
+    rw (c.in-Some.is, lt-ltb (next_sequence c.in-Some.previous) s c.if-sequence-expected.true, le-ltb s (next_sequence c.in-Some.previous) (omega (arith, c.if-sequence-expected.true))) (simp add-zero)
 
 pub returns-then-sequence-expected-2 : goal.returns-then-sequence-expected-2
 unfolding counted dropped_by late_by is_below next_sequence
 returns-then-sequence-expected-2 c = let s = c.args.sequence in
-    rw (c.in-Known.is, ← c.wrapping_add_u32-expected.ensures.value, le-ltb c.wrapping_add_u32-expected.result s c.if-sequence-expected.false, lt-ltb s c.wrapping_add_u32-expected.result c.if-sequence-expected-2.true) (simp add-zero)
+    rw (c.in-Some.is, le-ltb (next_sequence c.in-Some.previous) s c.if-sequence-expected.false, lt-ltb s (next_sequence c.in-Some.previous) c.if-sequence-expected-2.true) (simp add-zero)
 
 pub returns : goal.returns
 unfolding counted dropped_by late_by is_below next_sequence
 returns c = let s = c.args.sequence in
-    rw (c.in-Known.is, ← c.wrapping_add_u32-expected.ensures.value, le-ltb c.wrapping_add_u32-expected.result s c.if-sequence-expected.false, le-ltb s c.wrapping_add_u32-expected.result c.if-sequence-expected-2.false) (simp add-zero)
+    rw (c.in-Some.is, le-ltb (next_sequence c.in-Some.previous) s c.if-sequence-expected.false, le-ltb s (next_sequence c.in-Some.previous) c.if-sequence-expected-2.false) (simp add-zero)

@@ -15,5 +15,5 @@ pub returns : goal.returns
 returns c = let g = c.args in
     let r : TimeRequest = record { probe = g.probe_id; t1 = g.t1_ns } in
     let front16 = header_front 12 g.probe_id c.push_header.ensures in
-    let front24 = number_next 8 g.t1_ns front16 (omega arith) c.write_u64.ensures in
+    let front24 = number_next 8 g.t1_ns front16 (omega arith) c.write_to.ensures in
     built_written 24 (build_request r) g.target.now (request_length r) c.if-target.false (rw (← request_of_parts r) front24.bytes)

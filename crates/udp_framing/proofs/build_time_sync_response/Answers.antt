@@ -15,7 +15,7 @@ pub returns : goal.returns
 returns c = let g = c.args in
     let r : TimeResponse = record { probe = g.probe_id; t1 = g.t1_ns; t2 = g.t2_ns; t3 = g.t3_ns } in
     let front16 = header_front 13 g.probe_id c.push_header.ensures in
-    let front24 = number_next 8 g.t1_ns front16 (omega arith) c.write_u64.ensures in
-    let front32 = number_next 8 g.t2_ns front24 (omega arith) c.write_u64-2.ensures in
-    let front40 = number_next 8 g.t3_ns front32 (omega arith) c.write_u64-3.ensures in
+    let front24 = number_next 8 g.t1_ns front16 (omega arith) c.write_to.ensures in
+    let front32 = number_next 8 g.t2_ns front24 (omega arith) c.write_to-2.ensures in
+    let front40 = number_next 8 g.t3_ns front32 (omega arith) c.write_to-3.ensures in
     built_written 40 (build_response r) g.target.now (response_length r) c.if-target.false (rw (← response_of_parts r) front40.bytes)

@@ -14,8 +14,8 @@ returns-in_default c = let bytes = c.args.packet.now in
 
 pub returns-then-header-ne-STREAM_TYPE_TIME_SYNC_RESPONSE : goal.returns-then-header-ne-STREAM_TYPE_TIME_SYNC_RESPONSE
 unfolding parse_response
-returns-then-header-ne-STREAM_TYPE_TIME_SYNC_RESPONSE c = let found : some (header_of c.in-Header.header) ≡ parse_header c.args.packet.now =
-    sym (ap header_found c.in-Header.is) ∙ c.parse_media_header.ensures in
+returns-then-header-ne-STREAM_TYPE_TIME_SYNC_RESPONSE c = let found : some (header_of c.in-Some.header) ≡ parse_header c.args.packet.now =
+    sym (ap header_found c.in-Some.is) ∙ c.parse_media_header.ensures in
     simp (other_type_no_time_packet 13 40 _ found c.if-header-ne-STREAM_TYPE_TIME_SYNC_RESPONSE.true)
 
 pub returns-then-packet : goal.returns-then-packet
@@ -23,7 +23,7 @@ unfolding parse_response
 returns-then-packet c = simp (short_no_time_packet 13 40 c.args.packet.now c.if-packet.true)
 
 pub returns : goal.returns
-returns c = let found : some (header_of c.in-Header.header) ≡ parse_header c.args.packet.now =
-    sym (ap header_found c.in-Header.is) ∙ c.parse_media_header.ensures in
+returns c = let found : some (header_of c.in-Some.header) ≡ parse_header c.args.packet.now =
+    sym (ap header_found c.in-Some.is) ∙ c.parse_media_header.ensures in
     ap (or_refusal 10)
-    (parsed_response _ found c.if-header-ne-STREAM_TYPE_TIME_SYNC_RESPONSE.false c.if-packet.false c.read_u64-t1_ns.ensures c.read_u64-t2_ns.ensures c.read_u64-t3_ns.ensures)
+    (parsed_response _ found c.if-header-ne-STREAM_TYPE_TIME_SYNC_RESPONSE.false c.if-packet.false c.read_from.ensures c.read_from-2.ensures c.read_from-3.ensures)

@@ -7,9 +7,9 @@ use Rattle.udp_framing.proofs.push_header.Goals as goal
 
 pub returns : goal.returns
 returns c = let g = c.args in
-    let front2 = number_first 2 magic_number c.write_u16.ensures in
-    let front3 = number_next 1 2 front2 (omega arith) c.write_u8.ensures in
-    let front4 = number_next 1 g.stream_type front3 (omega arith) c.write_u8-2.ensures in
-    let front8 = number_next 4 g.sequence front4 (omega arith) c.write_u32.ensures in
-    let front16 = number_next 8 g.timestamp front8 (omega arith) c.write_u64.ensures in
+    let front2 = number_first 2 magic_number c.write_to.ensures in
+    let front3 = number_next 1 2 front2 (omega arith) c.write_to-2.ensures in
+    let front4 = number_next 1 g.stream_type front3 (omega arith) c.write_to-3.ensures in
+    let front8 = number_next 4 g.sequence front4 (omega arith) c.write_to-4.ensures in
+    let front16 = number_next 8 g.timestamp front8 (omega arith) c.write_to-5.ensures in
     rw (← header_of_fields g.stream_type g.sequence g.timestamp (omega arith)) front16.bytes

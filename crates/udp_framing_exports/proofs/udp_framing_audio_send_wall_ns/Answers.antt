@@ -13,6 +13,6 @@ returns-in_default c = nothing_handed time_numbers c.args.numbers.now
 
 pub returns : goal.returns
 returns c = all_handed time_numbers
-    (sym (ap send_time_found c.in-Ns.is) ∙ c.audio_send_wall_ns.ensures
+    (sym (ap send_time_found c.in-Some.is) ∙ c.audio_send_wall_ns.ensures
     ∙ ap (λ (h : Header). audio_send_time h c.args.packet.now) c.header_with.ensures)
     c.put.ensures

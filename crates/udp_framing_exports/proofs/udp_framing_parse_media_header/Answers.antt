@@ -9,4 +9,4 @@ pub returns-in_default : goal.returns-in_default
 returns-in_default c = nothing_handed header_numbers c.args.numbers.now (sym (ap header_found c.in_default.is) ∙ c.parse_media_header.ensures)
 
 pub returns : goal.returns
-returns c = all_handed header_numbers (sym (ap header_found c.in-Header.is) ∙ c.parse_media_header.ensures) c.put.ensures
+returns c = all_handed header_numbers (sym (ap header_found c.in-Some.is) ∙ c.parse_media_header.ensures) c.put.ensures

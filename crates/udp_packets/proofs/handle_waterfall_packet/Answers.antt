@@ -21,10 +21,10 @@ returns-in_default c = let g = c.args in
 pub show_row-shown-requires : goal.show_row-shown-requires
 show_row-shown-requires c = let g = c.args in
     let long : length c.push_chunk-pushed.new.buf ≡ g.z.bins = c.push_chunk-pushed.auto.buf ∙ length-take-le g.z.bins g.rows.now (omega (arith, c.requires.0.behind, c.requires.0.fits)) in
-    let inside = completed_inside g.z g.screen g.work g.rows.now g.picture.now g.payload.now c.requires.0 c.requires.1 c.push_chunk-pushed.result c.push_chunk-pushed.new.buf long c.push_chunk-pushed.ensures c.in-Bins.n c.in-Bins.is in
+    let inside = completed_inside g.z g.screen g.work g.rows.now g.picture.now g.payload.now c.requires.0 c.requires.1 c.push_chunk-pushed.result c.push_chunk-pushed.new.buf long c.push_chunk-pushed.ensures c.in-Some.n c.in-Some.is in
     (ready_after g.z g.screen g.work g.rows.now g.picture.now g.payload.now c.requires.0 c.requires.1 c.push_chunk-pushed.result c.push_chunk-pushed.new.buf long c.push_chunk-pushed.ensures, inside.0, inside.1)
 
 pub returns : goal.returns
 returns c = let g = c.args in
     let long : length c.push_chunk-pushed.new.buf ≡ g.z.bins = c.push_chunk-pushed.auto.buf ∙ length-take-le g.z.bins g.rows.now (omega (arith, c.requires.0.behind, c.requires.0.fits)) in
-    chunk_completes_one g.z g.screen g.work g.rows.now g.picture.now g.payload.now c.requires.0 c.requires.1 c.push_chunk-pushed.result c.push_chunk-pushed.new.buf long c.push_chunk-pushed.ensures c.in-Bins.n c.show_row-shown.result c.show_row-shown.new.rows _ c.in-Bins.is c.show_row-shown.ensures c.show_row-shown.auto.rows c.show_row-shown.auto.picture
+    chunk_completes_one g.z g.screen g.work g.rows.now g.picture.now g.payload.now c.requires.0 c.requires.1 c.push_chunk-pushed.result c.push_chunk-pushed.new.buf long c.push_chunk-pushed.ensures c.in-Some.n c.show_row-shown.result c.show_row-shown.new.rows _ c.in-Some.is c.show_row-shown.ensures c.show_row-shown.auto.rows c.show_row-shown.auto.picture

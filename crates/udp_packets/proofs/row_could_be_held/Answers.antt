@@ -11,16 +11,16 @@ returns-in_default c = sym (ap (row_asked c.args.bins) c.in_default.is)
 
 pub returns-then-bins-total_bins : goal.returns-then-bins-total_bins
 returns-then-bins-total_bins c = let g = c.args in
-    too_many_bins g.bins c.in-Open.open (omega arith) ∙ sym (ap (row_asked g.bins) c.in-Open.is)
+    too_many_bins g.bins c.in-Some.open (omega arith) ∙ sym (ap (row_asked g.bins) c.in-Some.is)
 
 pub returns-then-filled-total_bins : goal.returns-then-filled-total_bins
 returns-then-filled-total_bins c = let g = c.args in
-    not_yet_full g.bins c.in-Open.open (omega arith) (omega arith) ∙ sym (ap (row_asked g.bins) c.in-Open.is)
+    not_yet_full g.bins c.in-Some.open (omega arith) (omega arith) ∙ sym (ap (row_asked g.bins) c.in-Some.is)
 
 pub returns-then-filled-total_bins-2 : goal.returns-then-filled-total_bins-2
 returns-then-filled-total_bins-2 c = let g = c.args in
-    full g.bins c.in-Open.open (omega arith) (omega arith) (omega arith) ∙ sym (ap (row_asked g.bins) c.in-Open.is)
+    full g.bins c.in-Some.open (omega arith) (omega arith) (omega arith) ∙ sym (ap (row_asked g.bins) c.in-Some.is)
 
 pub returns : goal.returns
 returns c = let g = c.args in
-    filled_twice g.bins c.in-Open.open (omega arith) (omega arith) (omega arith) ∙ sym (ap (row_asked g.bins) c.in-Open.is)
+    filled_twice g.bins c.in-Some.open (omega arith) (omega arith) (omega arith) ∙ sym (ap (row_asked g.bins) c.in-Some.is)

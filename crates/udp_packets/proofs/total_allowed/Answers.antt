@@ -7,4 +7,4 @@ pub returns-then-payload-lt6 : goal.returns-then-payload-lt6
 returns-then-payload-lt6 c = no_total _ _ (omega arith)
 
 pub returns : goal.returns
-returns c = total_left _ _ (omega arith) _ c.read_u16.ensures
+returns c = total_left _ _ (omega arith) _ c.read_from.ensures

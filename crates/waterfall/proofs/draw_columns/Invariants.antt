@@ -1,7 +1,6 @@
 -- `waterfall::draw_columns` meets its contract. The loop's invariant: the first x columns are drawn, they reach as far as `reach` says, and what shows has its
 -- bin's colour. Assumes nothing.
 use mathlib.Core.Path.{◌≡◌}
-use Prim.Native.Nat.{◌≤◌, ◌-◌}
 use lib.ListN.{length}
 use Rattle.model.specs.Bytes.{placed}
 use Rattle.waterfall.specs.Shown.{bin_color, column_color}
@@ -10,8 +9,5 @@ use Rattle.waterfall.proofs.Reached.{Reached}
 use Rattle.waterfall.proofs.draw_columns.Given as goal
 
 abbrev pub invariant-loop-x : goal.invariant-loop-x
-invariant-loop-x l = (l.x ≤ l.width) × Reached l.width (length l.bins) l.x l.reach.bin l.reach.rest × (l.shown.color ≡ bin_color l.bottom l.range l.bins l.shown.bin)
+invariant-loop-x l = Reached l.width (length l.bins) l.x l.reach.bin l.reach.rest × (l.shown.color ≡ bin_color l.bottom l.range l.bins l.shown.bin)
     × (l.buffer ≡ placed 0 (drawn (column_color l.width l.bottom l.range l.bins) l.x) l.initial.buffer) × (length l.buffer ≡ length l.initial.buffer)
-
-abbrev pub decreases-loop-x : goal.decreases-loop-x
-decreases-loop-x l = l.width - l.x

@@ -10,8 +10,8 @@ pub overflow_mul-wf_height : goal.overflow_mul-wf_height
 overflow_mul-wf_height c = let p = c.requires in
     record { fits = omega (arith, top_and_rest c.args.wf_width c.args.wf_height p.some_rows, rows_below c.args.wf_width c.args.wf_height p.few_columns p.few_rows) }
 
-pub move_up_u32-requires : goal.move_up_u32-requires
-move_up_u32-requires c = (omega (arith, c.requires.some_columns), omega (arith, c.requires.whole, top_and_rest c.args.wf_width c.args.wf_height c.requires.some_rows))
+pub move_up-requires : goal.move_up-requires
+move_up-requires c = (omega (arith, c.requires.some_columns), omega (arith, c.requires.whole, top_and_rest c.args.wf_width c.args.wf_height c.requires.some_rows))
 
 pub overflow_sub-visible : goal.overflow_sub-visible
 overflow_sub-visible c = rw (c.zoom_window-window.ensures.from, c.zoom_window-window.ensures.to) (window_order (length c.args.row_db.now) c.args.zoom)
@@ -20,7 +20,7 @@ pub draw_top-requires : goal.draw_top-requires
 draw_top-requires c = let p = c.requires in
     let len = length c.args.row_db.now in
     let zoom = c.args.zoom in
-    let same : length c.move_up_u32.new.us ≡ length c.args.buffer.now = search rules in
+    let same : length c.move_up.new.a ≡ length c.args.buffer.now = search rules in
     let width = window_width len zoom in
     rw (c.zoom_window-window.ensures.from, c.zoom_window-window.ensures.to, width)
     (record {
@@ -35,5 +35,5 @@ draw_top-requires c = let p = c.requires in
 pub returns : goal.returns
 returns c = let len = length c.args.row_db.now in
     c.draw_top.ensures
-    ∙ rw (c.move_up_u32.ensures, c.zoom_window-window.ensures.from, c.zoom_window-window.ensures.to, window_width len c.args.zoom)
+    ∙ rw (c.move_up.ensures, c.zoom_window-window.ensures.from, c.zoom_window-window.ensures.to, window_width len c.args.zoom)
     (picture_drawn c.args.wf_width c.args.wf_height c.args.top_db c.args.range_db c.args.zoom c.args.row_db.now c.args.buffer.now c.requires.some_rows c.requires.whole)

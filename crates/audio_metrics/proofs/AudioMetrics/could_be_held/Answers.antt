@@ -6,6 +6,6 @@ pub returns-then-timing_could_be_held : goal.returns-then-timing_could_be_held
 unfolding clock_held
 returns-then-timing_could_be_held c = rw (← c.timing_could_be_held.ensures, c.if-timing_could_be_held.true, c.one_way_could_be_held.ensures)
 
-pub returns : goal.returns
+pub returns-else-timing_could_be_held : goal.returns-else-timing_could_be_held
 unfolding clock_held
-returns c = rw (← c.timing_could_be_held.ensures, c.if-timing_could_be_held.false)
+returns-else-timing_could_be_held c = rw (← c.timing_could_be_held.ensures, c.if-timing_could_be_held.false)

@@ -1,12 +1,9 @@
--- `audio_metrics::AudioMetrics::jitter_peak_ms` meets its contract. Assumes nothing.
+-- `audio_metrics::AudioMetrics::jitter_peak_ms` meets its contract: it is the reading of the peak. Assumes nothing.
+use Rattle.std.proofs.Common.{rules}
 use Rattle.model.specs.Clock.{depth_peak_ms}
-use Rattle.model.proofs.Constants.{f_zero}
+use Rattle.audio_metrics.proofs.Readings.{depth_reading}
 use Rattle.audio_metrics.proofs.AudioMetrics.jitter_peak_ms.Goals as goal
-
-pub returns-in_default : goal.returns-in_default
-unfolding depth_peak_ms
-returns-in_default c = rw (f_zero, c.in_default.is)
 
 pub returns : goal.returns
 unfolding depth_peak_ms
-returns c = rw c.in-Known.is
+returns c = depth_reading (λ d. d.peak) c.args.self.jitter c.map_or.result (search rules)

@@ -6,4 +6,4 @@ use Rattle.playback_parts.proofs.closing.put_times.Goals as goal
 
 pub returns : goal.returns
 unfolding clock_text
-returns c = piece_put (omega (arith, c.requires)) c.put_clock-line.ensures c.length_put.ensures
+returns c = piece_put (omega (arith, c.requires)) c.put_clock.ensures c.unwrap.ensures

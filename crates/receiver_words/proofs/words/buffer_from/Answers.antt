@@ -2,4 +2,4 @@
 use Rattle.receiver_words.proofs.words.buffer_from.Goals as goal
 
 pub returns : goal.returns
-returns c = rw c.next_from-next.ensures
+returns c = rw c.sequence_from-next.ensures

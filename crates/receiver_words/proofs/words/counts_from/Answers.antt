@@ -2,4 +2,4 @@
 use Rattle.receiver_words.proofs.words.counts_from.Goals as goal
 
 pub returns : goal.returns
-returns c = rw c.last_from-last.ensures
+returns c = rw c.sequence_from-last.ensures

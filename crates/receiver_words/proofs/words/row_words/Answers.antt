@@ -2,4 +2,4 @@
 use Rattle.receiver_words.proofs.words.row_words.Goals as goal
 
 pub returns : goal.returns
-returns c = rw (c.in-Open.is, c.flag_word.ensures)
+returns c = rw (c.in-Some.is, c.flag_word.ensures)

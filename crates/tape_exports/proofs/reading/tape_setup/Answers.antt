@@ -1,16 +1,16 @@
 -- `tape_exports::reading::tape_setup` meets its contract: the numbers that are stored are the setup's, and a bad tape stores none. Assumes nothing.
 use Prim.Native.Nat.{ℕ}
 use mathlib.Core.List.{List}
+use mathlib.Core.Path.{refl}
 use native.Mathlib.Omega.{arith}
 use Rattle.tape.proofs.WordLaws.{slice_are_bytes}
 use Rattle.tape_exports.proofs.HandedOver.{setup_handed, bad_handed}
 use Rattle.tape_exports.proofs.reading.tape_setup.Goals as goal
 
-pub returns-in-Found : goal.returns-in-Found
-returns-in-Found c = let bytes : List ℕ = c.args.tape.now in
-    setup_handed {tape = bytes} (slice_are_bytes bytes c.shared_slice_known-1.given) (omega arith) c.setup_of-s.ensures.answers c.in-Found.is
-    c.put_setup.ensures
+pub returns-in-Ok : goal.returns-in-Ok
+returns-in-Ok c = let bytes : List ℕ = c.args.tape.now in
+    setup_handed {tape = bytes} (slice_are_bytes bytes c.shared_slice_known-1.given) (omega arith) c.in-Ok.ensures.answers refl c.put_setup.ensures
 
-pub returns-in-Bad : goal.returns-in-Bad
-returns-in-Bad c = let bytes : List ℕ = c.args.tape.now in
-    bad_handed {tape = bytes} (slice_are_bytes bytes c.shared_slice_known-1.given) (omega arith) c.setup_of-s.ensures.answers c.in-Bad.is
+pub returns-in-Err : goal.returns-in-Err
+returns-in-Err c = let bytes : List ℕ = c.args.tape.now in
+    bad_handed {tape = bytes} (slice_are_bytes bytes c.shared_slice_known-1.given) (omega arith) {place = c.in-Err.bad.place} c.in-Err.ensures.answers refl

@@ -1,22 +1,28 @@
--- `udp::StreamCounts::could_be_held` meets its contract: the three answers are the cases of `stream_held`. Assumes nothing.
+-- `udp::StreamCounts::could_be_held` meets its contract: the three tests are those of `stream_held`. Assumes nothing.
 use Rattle.std.proofs.Common.{◌*◌, sym, ◌∙◌}
-use borrow.Author.Tests.{not-true, not-false}
 use Rattle.model.specs.Questions.{most_calls}
+use Rattle.model.proofs.BoolLaws.{clash}
 use Rattle.udp.specs.Views.{counts_of}
 use Rattle.udp.proofs.CountsAsked.{packets_refused, dropped_refused, late_left}
 use Rattle.udp.proofs.StreamCounts.could_be_held.Goals as goal
+use Rattle.udp.proofs.StreamCounts.could_be_held.Goals.{then-counter_held, else-counter_held}
 
-pub returns-then-not-counter_held : goal.returns-then-not-counter_held
-returns-then-not-counter_held c = let g = c.args in
-    packets_refused (g.calls * most_calls) (counts_of g.self) (sym c.counter_held.ensures ∙ not-true _ c.if-not-counter_held.true-raw)
+pub returns-then-counter_held-2 : goal.returns-then-counter_held-2
+returns-then-counter_held-2 c = let g = c.args in
+    elim c.if-counter_held.branch [
+      | then-counter_held w ↦
+          c.counter_held-then-counter_held-2.ensures
+          ∙ late_left (g.calls * most_calls) (counts_of g.self) (sym c.counter_held.ensures ∙ w.if-counter_held.true)
+          (sym w.counter_held-then-counter_held.ensures ∙ sym w.value-is ∙ c.if-counter_held-2.true)
+      | else-counter_held w ↦ clash (cc)
+    ]
 
-pub returns-then-not-counter_held-2 : goal.returns-then-not-counter_held-2
-returns-then-not-counter_held-2 c = let g = c.args in
-    dropped_refused (g.calls * most_calls) (counts_of g.self) (sym c.counter_held.ensures ∙ not-false _ c.if-not-counter_held.false-raw)
-    (sym c.counter_held-2.ensures ∙ not-true _ c.if-not-counter_held-2.true-raw)
-
-pub returns : goal.returns
-returns c = let g = c.args in
-    c.counter_held-3.ensures
-    ∙ late_left (g.calls * most_calls) (counts_of g.self) (sym c.counter_held.ensures ∙ not-false _ c.if-not-counter_held.false-raw)
-    (sym c.counter_held-2.ensures ∙ not-false _ c.if-not-counter_held-2.false-raw)
+pub returns-else-counter_held-2 : goal.returns-else-counter_held-2
+returns-else-counter_held-2 c = let g = c.args in
+    c.if-counter_held-2.false
+    ∙ elim c.if-counter_held.branch [
+      | then-counter_held w ↦
+          dropped_refused (g.calls * most_calls) (counts_of g.self) (sym c.counter_held.ensures ∙ w.if-counter_held.true)
+          (sym w.counter_held-then-counter_held.ensures ∙ sym w.value-is ∙ c.if-counter_held-2.false)
+      | else-counter_held w ↦ packets_refused (g.calls * most_calls) (counts_of g.self) (sym c.counter_held.ensures ∙ w.if-counter_held.false)
+    ]
