@@ -1,11 +1,10 @@
 -- Chains of calls: each link is what a call of the receiver promises, and starts where the link before it ended. Assumes nothing.
-use Rattle.std.specs.Prelude.{List, [], ◌∷◌, Float, ℕ}
+use Rattle.std.specs.Prelude.{Ok, List, [], ◌∷◌, Float, ℕ}
 use Rattle.model.specs.Receiver.{Call, Answer, State, Lent}
 use Rattle.model.specs.Step.{Event}
 use Rattle.calls.specs.declared.Sizes.{Sizes}
 use Rattle.calls.specs.declared.Estimates.{Estimates}
 use Rattle.receiver_state.specs.declared.Receiver.{Receiver}
-use Rattle.receiver_setup.specs.declared.Opening.TheVariants.{Ready}
 use Rattle.receiver_state.specs.View.{state_of, lent_of}
 use Rattle.receiver_state.specs.Promises.{Called}
 use Rattle.receiver_setup.specs.Promises.{SetupDone}
@@ -25,7 +24,7 @@ lent_at m = lent_of m.floats m.words
 
 -- an accepted setup left the receiver and the areas so; `words` is the u32 area that it was lent
 abbrev pub LeftBySetup : Sizes → Estimates → Estimates → List ℕ → Moment → Type 0
-LeftBySetup z a b words m = SetupDone z a b m.floats words (Ready m.receiver) m.words
+LeftBySetup z a b words m = SetupDone z a b m.floats words (Ok m.receiver) m.words
 
 -- what a call that is made at one moment promises of the next one
 abbrev pub CalledAt : Call → Moment → Answer → Moment → Type 0

@@ -1,5 +1,5 @@
 // The calls that are made: a datagram, a play or a reset, on so many places of the areas.
-use calls::Side;
+use calls::{Refusal, Side};
 use receiver_state::{Answer, Answered, Receiver};
 
 // What a header says, but for its timestamp.
@@ -66,11 +66,11 @@ fn datagram(h: Header, first: u64) -> [u8; 272] {
     bytes
 }
 
-// There is no room for the call.
+// There is no room for the call. No call is refused by BadWord.
 fn no_call(receiver: Receiver) -> Answered {
     Answered {
         receiver,
-        answer: Answer::Refused(99),
+        answer: Answer::Refused(Refusal::BadWord),
     }
 }
 

@@ -4,9 +4,9 @@ use crate::acts::{Act, Lent, call_on, sound};
 use crate::compare::{Difference, jitter_of, numbers, same};
 use crate::session::{estimates, refusal, refused_by, setup_on, sizes};
 use crate::tally::{Failed, ended_as, in_turn};
-use calls::{Side, Sizes};
+use calls::{Refusal, Side, Sizes};
 use jitter_buffer::JitterBuffer;
-use receiver_setup::{Opening, setup};
+use receiver_setup::setup;
 use receiver_state::{Answered, Receiver};
 
 #[derive(Clone, Copy)]
@@ -23,7 +23,7 @@ pub enum Change {
 
 #[derive(Clone, Copy)]
 pub enum Expect {
-    Refused(u32),
+    Refused(Refusal),
     Accepted,
     // Accepted, and nothing is changed but the number of calls and of valid headers.
     Counted,
@@ -187,7 +187,7 @@ fn everything(r: Receiver, fs: &[f32; 64], us: &[u32; 11]) -> [u64; 119] {
 // The number of the question that must refuse; 0 where the call must be accepted.
 fn number_of(expect: Expect) -> u64 {
     match expect {
-        Expect::Refused(n) => u64::from(n),
+        Expect::Refused(why) => u64::from(why.number()),
         _ => 0,
     }
 }
@@ -287,10 +287,9 @@ pub fn called(
 ) -> Result<u64, Failed> {
     let mut fs = [2.0f32; 64];
     let mut us = [7u32; 11];
-    let begun = setup(sizes(4, 8, 16), estimates(), estimates(), &fs, &mut us);
-    match begun {
-        Opening::Refused(n) => ended_as(side, 0, Err(refused_by(u64::from(n)))),
-        Opening::Ready(r) => {
+    match setup(sizes(4, 8, 16), estimates(), estimates(), &fs, &mut us) {
+        Err(why) => ended_as(side, 0, Err(refused_by(u64::from(why.number())))),
+        Ok(r) => {
             let act = on_side(a, side);
             let done = call_playing(r, side, &mut fs, &mut us, change, lent, act, expect);
             ended_as(side, 1, done)
@@ -307,10 +306,10 @@ pub fn all_called(side: Side, change: Change, lent: Lent, expect: Expect) -> Res
 }
 
 // The number of the question that refused a setup; 0 where it was accepted.
-fn setup_refusal(begun: Opening) -> u64 {
+fn setup_refusal(begun: Result<Receiver, Refusal>) -> u64 {
     match begun {
-        Opening::Refused(n) => u64::from(n),
-        Opening::Ready(_) => 0,
+        Err(why) => u64::from(why.number()),
+        Ok(_) => 0,
     }
 }
 

@@ -1,9 +1,9 @@
 // What was found after a call, against what a session's text expects, and against what was there before.
 use crate::text::{decimal, pattern};
-use calls::Side;
+use calls::{Refusal, Side};
 use jitter_buffer::JitterBuffer;
 use receiver_state::Receiver;
-use receiver_state::readings::{Buffered, buffered_samples};
+use receiver_state::readings::buffered_samples;
 
 // What is not as expected: its number in the list of names (see tally), its place where it is one of many, and
 // both values.
@@ -20,11 +20,11 @@ fn next_or_0(next: Option<u32>) -> u64 {
 }
 
 // A state that has no amount shows as a number that no session expects.
-fn amount_word(a: Buffered) -> u64 {
+fn amount_word(a: Result<usize, Refusal>) -> u64 {
     match a {
-        Buffered::Samples(n) => n as u64,
-        Buffered::NotAllowed => 18446744073709551615,
-        Buffered::TooLong => 18446744073709551614,
+        Ok(n) => n as u64,
+        Err(Refusal::Sizes) => 18446744073709551615,
+        Err(_) => 18446744073709551614,
     }
 }
 

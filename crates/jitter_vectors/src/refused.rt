@@ -1,11 +1,11 @@
-// Calls that must be refused, by the number of the question that refuses them, beside ones that must not: sizes at which
+// Calls that must be refused, by the question that refuses them, beside ones that must not: sizes at which
 // the original panics and sizes that are too large, areas one place too short, states that no receiver has, plays and
 // datagrams out of their bounds.
 use crate::acts::{Act, Header, Lent};
 use crate::asked::{Change, Expect, all_called, called, exact, set_up};
 use crate::session::sizes;
 use crate::tally::{Tally, begun, in_turn, tallied};
-use calls::{Side, Sizes};
+use calls::{Refusal, Side, Sizes};
 
 // A setup of these sizes on so many places, and all calls of a state with these sizes.
 fn sized(t: Tally, name: &[u8], z: Sizes, lent: Lent, expect: Expect) -> Tally {
@@ -20,13 +20,20 @@ fn lent(t: Tally, name: &[u8], floats: usize, words: usize, expect: Expect) -> T
     sized(t, name, sizes(4, 8, 16), Lent { floats, words }, expect)
 }
 
-fn of_sizes(t: Tally, name: &[u8], packet: usize, target: usize, max: usize, n: u32) -> Tally {
+fn of_sizes(
+    t: Tally,
+    name: &[u8],
+    packet: usize,
+    target: usize,
+    max: usize,
+    why: Refusal,
+) -> Tally {
     sized(
         t,
         name,
         sizes(packet, target, max),
         exact(),
-        Expect::Refused(n),
+        Expect::Refused(why),
     )
 }
 
@@ -59,34 +66,63 @@ fn one(t: Tally, name: &[u8], a: Act, expect: Expect) -> Tally {
 
 fn lengths(t0: Tally) -> Tally {
     let t1 = lent(t0, b"areas of the exact length", 63, 10, Expect::Accepted);
-    let t2 = lent(t1, b"one float too few", 62, 10, Expect::Refused(2));
+    let t2 = lent(
+        t1,
+        b"one float too few",
+        62,
+        10,
+        Expect::Refused(Refusal::NoRoom),
+    );
     let t3 = lent(t2, b"one float more", 64, 10, Expect::Accepted);
-    let t4 = lent(t3, b"one word too few", 63, 9, Expect::Refused(2));
+    let t4 = lent(
+        t3,
+        b"one word too few",
+        63,
+        9,
+        Expect::Refused(Refusal::NoRoom),
+    );
     lent(t4, b"one word more", 63, 11, Expect::Accepted)
 }
 
 // Sizes that question 1 lets through are refused by question 2 on areas that are too short for them.
 fn limits(t0: Tally) -> Tally {
-    let t1 = of_sizes(t0, b"packet of no samples", 0, 8, 16, 1);
-    let t2 = of_sizes(t1, b"target below packet", 4, 3, 16, 1);
-    let t3 = of_sizes(t2, b"target and max of one packet", 64, 64, 64, 2);
-    let t4 = of_sizes(t3, b"max below target", 4, 8, 7, 1);
-    let t5 = of_sizes(t4, b"largest sizes", 4096, 65536, 131072, 2);
-    let t6 = of_sizes(t5, b"packet too large", 4097, 65536, 131072, 1);
-    let t7 = of_sizes(t6, b"target too large", 4096, 65537, 131072, 1);
-    of_sizes(t7, b"max too large", 4096, 65536, 131073, 1)
+    let t1 = of_sizes(t0, b"packet of no samples", 0, 8, 16, Refusal::Sizes);
+    let t2 = of_sizes(t1, b"target below packet", 4, 3, 16, Refusal::Sizes);
+    let t3 = of_sizes(
+        t2,
+        b"target and max of one packet",
+        64,
+        64,
+        64,
+        Refusal::NoRoom,
+    );
+    let t4 = of_sizes(t3, b"max below target", 4, 8, 7, Refusal::Sizes);
+    let t5 = of_sizes(t4, b"largest sizes", 4096, 65536, 131072, Refusal::NoRoom);
+    let t6 = of_sizes(t5, b"packet too large", 4097, 65536, 131072, Refusal::Sizes);
+    let t7 = of_sizes(t6, b"target too large", 4096, 65537, 131072, Refusal::Sizes);
+    of_sizes(t7, b"max too large", 4096, 65536, 131073, Refusal::Sizes)
 }
 
 fn states(t0: Tally) -> Tally {
     let t1 = held(t0, b"run of two", Change::Run(2), Expect::Accepted);
-    let t2 = held(t1, b"run of three", Change::Run(3), Expect::Refused(3));
+    let t2 = held(
+        t1,
+        b"run of three",
+        Change::Run(3),
+        Expect::Refused(Refusal::NotHeld),
+    );
     let t3 = held(t2, b"queue of 11", Change::Queue(11), Expect::Accepted);
-    let t4 = held(t3, b"queue of 12", Change::Queue(12), Expect::Refused(3));
+    let t4 = held(
+        t3,
+        b"queue of 12",
+        Change::Queue(12),
+        Expect::Refused(Refusal::NotHeld),
+    );
     held(
         t4,
         b"five waiting in four places",
         Change::Waiting(5),
-        Expect::Refused(3),
+        Expect::Refused(Refusal::NotHeld),
     )
 }
 
@@ -101,7 +137,7 @@ fn sequences_and_calls(t0: Tally) -> Tally {
         t1,
         b"waiting sequences equal",
         Change::Second(12),
-        Expect::Refused(3),
+        Expect::Refused(Refusal::NotHeld),
     );
     let t3 = held(
         t2,
@@ -113,13 +149,18 @@ fn sequences_and_calls(t0: Tally) -> Tally {
         t3,
         b"no call left",
         Change::Calls(4294967295),
-        Expect::Refused(4),
+        Expect::Refused(Refusal::TooManyCalls),
     )
 }
 
 fn plays(t0: Tally) -> Tally {
     let t1 = one(t0, b"longest play", Act::Play(65535), Expect::Accepted);
-    one(t1, b"play too long", Act::Play(65536), Expect::Refused(9))
+    one(
+        t1,
+        b"play too long",
+        Act::Play(65536),
+        Expect::Refused(Refusal::Range),
+    )
 }
 
 fn datagrams(t0: Tally) -> Tally {
@@ -127,19 +168,19 @@ fn datagrams(t0: Tally) -> Tally {
         t0,
         b"datagram of 15 bytes",
         datagram(0x5253, 1, 1, 15),
-        Expect::Refused(6),
+        Expect::Refused(Refusal::Length),
     );
     let t2 = one(
         t1,
         b"magic one too large",
         datagram(0x5254, 1, 1, 24),
-        Expect::Refused(7),
+        Expect::Refused(Refusal::Header),
     );
     let t3 = one(
         t2,
         b"version 0",
         datagram(0x5253, 0, 1, 24),
-        Expect::Refused(7),
+        Expect::Refused(Refusal::Header),
     );
     let t4 = one(
         t3,
@@ -151,7 +192,7 @@ fn datagrams(t0: Tally) -> Tally {
         t4,
         b"version 3",
         datagram(0x5253, 3, 1, 32),
-        Expect::Refused(7),
+        Expect::Refused(Refusal::Header),
     );
     one(
         t5,

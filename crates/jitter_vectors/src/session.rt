@@ -3,8 +3,8 @@ use crate::acts::{Act, Lent, call_on, sound};
 use crate::compare::{Difference, agree, numbers, same, samples_agree};
 use crate::tally::{Failed, Tally, ended_as, in_turn, tallied};
 use crate::text::{Call, behind_empty_line, call_at, decimal, ends_at, name};
-use calls::{Estimates, Side, Sizes};
-use receiver_setup::{Opening, setup};
+use calls::{Estimates, Refusal, Side, Sizes};
+use receiver_setup::setup;
 use receiver_state::{Answer, Receiver};
 
 // What a call left, and the place of the next line, if its line agrees.
@@ -43,12 +43,12 @@ pub fn estimates() -> Estimates {
 // The number of the question that was answered with no; 0 where the call was accepted.
 pub fn refusal(answer: Answer) -> u64 {
     match answer {
-        Answer::Refused(n) => u64::from(n),
+        Answer::Refused(why) => u64::from(why.number()),
         _ => 0,
     }
 }
 
-// A call's refusal where it must be accepted. 99 is a line that is no call, and what is longer than there is.
+// A call's refusal where it must be accepted. 99 is a line that is no call.
 pub fn refused_by(n: u64) -> Difference {
     Difference {
         what: 17,
@@ -227,8 +227,8 @@ fn needed(z: Sizes) -> Lent {
     }
 }
 
-// Setup on so many places.
-pub fn setup_on(z: Sizes, fs: &[f32], us: &mut [u32], lent: Lent) -> Opening {
+// Setup on so many places. No setup is refused by BadWord: it is what is longer than there is.
+pub fn setup_on(z: Sizes, fs: &[f32], us: &mut [u32], lent: Lent) -> Result<Receiver, Refusal> {
     let n = lent.floats;
     let m = lent.words;
     if n <= fs.len() {
@@ -236,7 +236,7 @@ pub fn setup_on(z: Sizes, fs: &[f32], us: &mut [u32], lent: Lent) -> Opening {
             return setup(z, estimates(), estimates(), &fs[0..n], &mut us[0..m]);
         }
     }
-    Opening::Refused(99)
+    Err(Refusal::BadWord)
 }
 
 // A session on one channel, whatever the free places hold.
@@ -244,10 +244,9 @@ fn on(z: Sizes, side: Side, text: &[u8], at: usize) -> Result<u64, Failed> {
     let mut fs = [2.0f32; 1024];
     let mut us = [7u32; 64];
     let lent = needed(z);
-    let begun = setup_on(z, &fs, &mut us, lent);
-    match begun {
-        Opening::Refused(n) => ended_as(side, 0, Err(refused_by(u64::from(n)))),
-        Opening::Ready(r) => steps(r, side, &mut fs, &mut us, lent, text, at),
+    match setup_on(z, &fs, &mut us, lent) {
+        Err(why) => ended_as(side, 0, Err(refused_by(u64::from(why.number())))),
+        Ok(r) => steps(r, side, &mut fs, &mut us, lent, text, at),
     }
 }
 

@@ -104,7 +104,7 @@ part_inside place n xs =
 
 -- so many values has a row, cut to what is lent
 pub row_has : (a : Answer) (facts : Facts) (fs values : List Float) (count : ℕ) → count ≡ row_length a facts (length fs) → RowStands a facts fs values → RowHas a values count
-row_has (Refused n) facts fs values count is stands = tt
+row_has (Refused why) facts fs values count is stands = tt
 row_has Accepted facts fs values count is stands = tt
 row_has (Played taken dropped short) facts fs values count is stands = tt
 row_has NoRow facts fs values count is stands = tt

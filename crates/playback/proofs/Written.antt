@@ -120,7 +120,7 @@ module _ (c : Call) (r : Receiver) (fs : List Float) (us : List ℕ) (lent : Lis
       }
 
   full_behind : (form : Form) (a : Answer) → v.answer ≡ a → Behind form (left_behind a) (doing_after (left_behind a) facts (length fs'))
-  full_behind form (Refused n) is = nothing_behind form
+  full_behind form (Refused why) is = nothing_behind form
   full_behind form Accepted is = nothing_behind form
   full_behind form (Played taken dropped short) is = samples_behind form taken dropped short is
   full_behind form NoRow is = nothing_behind form

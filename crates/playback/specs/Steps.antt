@@ -194,7 +194,7 @@ pub record CallBegun (form : Form) (v : Answered) (facts : Facts) (fs : List Flo
 
 -- how many values of a row lie inside of what is lent
 abbrev pub row_length : Code.Answer → Facts → ℕ → ℕ
-row_length (Codes.Refused n) facts floats = 0
+row_length (Codes.Refused why) facts floats = 0
 row_length Codes.Accepted facts floats = 0
 row_length (Codes.Played taken dropped short) facts floats = 0
 row_length Codes.NoRow facts floats = 0

@@ -6,12 +6,13 @@ pub mod limits;
 ghost use Rattle.std.specs.Prelude.{◌≤◌, length};
 ghost use Rattle.model.specs.Replay.{refused_line, bad_tape_line, replay_over};
 ghost use Rattle.receiver_state.specs.View.{lent_of};
+ghost use Rattle.calls.specs.Refusals.{refusal_number};
 ghost use Rattle.calls.specs.Views.{model_setup};
 ghost use Rattle.playback_parts.specs.Parts.{TextPut};
 ghost use Rattle.playback_opening.specs.Beginnings.{SetupBegun, BegunTo};
 
+use calls::Refusal;
 use playback_parts::{Doing, PIECE, Playback};
-use receiver_setup::Opening;
 use tape::Setup;
 
 // How a replay begins.
@@ -25,11 +26,11 @@ pub enum Beginning {
 }
 
 // The line of a refused setup.
-fn put_refused(text: &mut [u8], n: u32) -> usize
+fn put_refused(text: &mut [u8], why: Refusal) -> usize
     requires { 170 ≤ length text.old }
-    ensures { TextPut (refused_line n) text.old text.new result }
+    ensures { TextPut (refused_line (refusal_number why)) text.old text.new result }
 {
-    lines::put_line(text, b'X', &[n as u64]).unwrap()
+    lines::put_line(text, b'X', &[why.number() as u64]).unwrap()
 }
 
 // The line of a refused tape.
@@ -48,10 +49,9 @@ pub fn set_up(setup: Setup, fs: &[f32], us: &mut [u32], text: &mut [u8]) -> Begi
     let sizes = setup.sizes;
     let a = setup.a;
     let b = setup.b;
-    let opening = receiver_setup::setup(sizes, a, b, fs, us);
-    match opening {
-        Opening::Refused(n) => Beginning::Refused(put_refused(text, n)),
-        Opening::Ready(receiver) => Beginning::Playing(Playback {
+    match receiver_setup::setup(sizes, a, b, fs, us) {
+        Err(why) => Beginning::Refused(put_refused(text, why)),
+        Ok(receiver) => Beginning::Playing(Playback {
             receiver,
             place: 13,
             doing: Doing::Call,

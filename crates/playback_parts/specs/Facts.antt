@@ -9,16 +9,10 @@ use Rattle.model.specs.Tape as Tape
 use Rattle.model.specs.Replay.{stream_side, side_of}
 use Rattle.calls.specs.Views.{model_side}
 use Rattle.receiver_state.specs.View.{stream_place}
-use Rattle.receiver_state.specs.declared.readings.Place.{Place}
-use Rattle.receiver_state.specs.declared.readings.Place.TheVariants.{At, NoSizes}
 use Rattle.replaying.specs.Acting.{samples_asked}
 use Rattle.playback_parts.specs.declared.facts.Kind.TheVariants as Kind
 use Rattle.playback_parts.specs.declared.facts.Facts.{Facts}
 use Rattle.playback_parts.specs.declared.facts.StreamFacts.{StreamFacts}
-
-abbrev pub place_at : Place → ℕ
-place_at (At at) = at
-place_at NoSizes = 0
 
 -- where the values of a row stand that a call completes
 abbrev pub place_of : Sizing.Sizes → Call → ℕ

@@ -5,11 +5,11 @@ ghost use Rattle.calls.specs.Views.{sizes_of};
 ghost use Rattle.tape.specs.Answers.{CallInside, Inside, model_call, model_found};
 ghost use Rattle.receiver_datagrams.specs.Promises.{model_stream};
 ghost use Rattle.calls.specs.declared.Side.TheVariants as Side;
-ghost use Rattle.playback_parts.specs.Facts.{place_at, StreamFound, CallFacts, FactsOf};
+ghost use Rattle.playback_parts.specs.Facts.{StreamFound, CallFacts, FactsOf};
 
 use calls::{Side, Sizes};
 use receiver_datagrams::{Stream, stream_of};
-use receiver_state::readings::{Place, row_place};
+use receiver_state::readings::row_place;
 use tape::{Call, Found, Placed};
 
 // What stands at a tape's place.
@@ -49,15 +49,6 @@ pub struct StreamFacts {
     pub row: usize,
 }
 
-fn place_in(place: Place) -> usize
-    ensures { result ≡ place_at place }
-{
-    match place {
-        Place::At(at) => at,
-        Place::NoSizes => 0,
-    }
-}
-
 fn stream_facts(z: Sizes, stream: Stream) -> StreamFacts
     ensures { StreamFound (sizes_of z) (model_stream stream) result }
 {
@@ -65,7 +56,7 @@ fn stream_facts(z: Sizes, stream: Stream) -> StreamFacts
         Stream::Audio(side) => StreamFacts { side, row: 0 },
         Stream::Waterfall(side) => StreamFacts {
             side,
-            row: place_in(row_place(z, side)),
+            row: row_place(z, side).unwrap_or(0),
         },
         Stream::Other => StreamFacts {
             side: Side::A,

@@ -11,6 +11,7 @@ use Rattle.model.specs.Receiver.{played, is_accepted}
 use Rattle.model.specs.Questions.{first_no, own_questions}
 use Rattle.model.specs.Step.{play_channel, changes}
 use Rattle.calls.specs.declared.Side.{Side}
+use Rattle.calls.specs.declared.Refusal.TheVariants as Refusal
 use Rattle.calls.specs.Views.{model_side, sizes_of}
 use Rattle.jitter_buffer.proofs.HeldKept.{WordsFit}
 use Rattle.channel.specs.declared.Played.{Played}
@@ -26,7 +27,7 @@ use Rattle.receiver_state.proofs.SideCalls.{side_called}
 use Rattle.receiver_state.proofs.Lending.{floats_put, words_put, sound_taken}
 
 module _ (r : Receiver) (fs : List Float) (us : List ℕ) (ready : Ready r fs us) (words : WordsFit us) (side : Side) (out : List Float) where
-  pub play_refused : 65535 < length out → PlayedOut side r fs us out (record { receiver = r; answer = Answer.Refused 9 }) fs us out
+  pub play_refused : 65535 < length out → PlayedOut side r fs us out (record { receiver = r; answer = Answer.Refused Refusal.Range }) fs us out
   unfolding own_questions first_no
   play_refused many =
       record {

@@ -5,8 +5,8 @@ ghost use Rattle.calls.specs.Views.{model_counts};
 ghost use Rattle.receiver_state.specs.View.{answer_of};
 ghost use Rattle.receiver_state.specs.Promises.{Ready, Called};
 
-use calls::DepthCounts;
-use receiver_state::asking::{Verdict, asked};
+use calls::{DepthCounts, Refusal};
+use receiver_state::asking::asked;
 use receiver_state::counted::{count_call, refusal, with_clock};
 use receiver_state::{Answer, Answered, Receiver};
 
@@ -19,7 +19,7 @@ fn probed(r: Receiver, fs: &[f32], us: &[u32], t1: u64, t2: u64, t3: u64, t4: u6
     let offset = measured.offset;
     let rtt = measured.rtt;
     if !audio_metrics::probe_in_range(offset, rtt) {
-        return refusal(r, 9);
+        return refusal(r, Refusal::Range);
     }
     let before = r.clock;
     let clock = before.record_probe(offset, rtt);
@@ -48,7 +48,7 @@ fn deepened(r: Receiver, fs: &[f32], us: &[u32], samples: usize, counts: DepthCo
     ensures { Called (depth samples (model_counts counts)) r fs.now us.now (answer_of result.answer []) result.receiver fs.now us.now }
 {
     if !audio_metrics::depth_in_range(samples) {
-        return refusal(r, 9);
+        return refusal(r, Refusal::Range);
     }
     let before = r.clock;
     let clock = before.publish_jitter(
@@ -70,7 +70,7 @@ fn transmitted(r: Receiver, fs: &[f32], us: &[u32], samples: usize) -> Answered
     ensures { Called (transmit_depth samples) r fs.now us.now (answer_of result.answer []) result.receiver fs.now us.now }
 {
     if !audio_metrics::depth_in_range(samples) {
-        return refusal(r, 9);
+        return refusal(r, Refusal::Range);
     }
     let before = r.clock;
     let clock = before.note_tx_ring(samples);
@@ -84,10 +84,9 @@ fn transmitted(r: Receiver, fs: &[f32], us: &[u32], samples: usize) -> Answered
 pub fn probe(r: Receiver, fs: &[f32], us: &[u32], t1: u64, t2: u64, t3: u64, t4: u64) -> Answered
     ensures { Called (probe t1 t2 t3 t4) r fs.now us.now (answer_of result.answer []) result.receiver fs.now us.now }
 {
-    let verdict = asked(r, fs, us);
-    match verdict {
-        Verdict::No(n) => refusal(r, n),
-        Verdict::Yes => probed(r, fs, us, t1, t2, t3, t4),
+    match asked(r, fs, us) {
+        Err(why) => refusal(r, why),
+        Ok(()) => probed(r, fs, us, t1, t2, t3, t4),
     }
 }
 
@@ -95,10 +94,9 @@ pub fn probe(r: Receiver, fs: &[f32], us: &[u32], t1: u64, t2: u64, t3: u64, t4:
 pub fn one_way(r: Receiver, fs: &[f32], us: &[u32], receive: u64, send: u64) -> Answered
     ensures { Called (one_way receive send) r fs.now us.now (answer_of result.answer []) result.receiver fs.now us.now }
 {
-    let verdict = asked(r, fs, us);
-    match verdict {
-        Verdict::No(n) => refusal(r, n),
-        Verdict::Yes => timed(r, fs, us, receive, send),
+    match asked(r, fs, us) {
+        Err(why) => refusal(r, why),
+        Ok(()) => timed(r, fs, us, receive, send),
     }
 }
 
@@ -106,10 +104,9 @@ pub fn one_way(r: Receiver, fs: &[f32], us: &[u32], receive: u64, send: u64) -> 
 pub fn depth(r: Receiver, fs: &[f32], us: &[u32], samples: usize, counts: DepthCounts) -> Answered
     ensures { Called (depth samples (model_counts counts)) r fs.now us.now (answer_of result.answer []) result.receiver fs.now us.now }
 {
-    let verdict = asked(r, fs, us);
-    match verdict {
-        Verdict::No(n) => refusal(r, n),
-        Verdict::Yes => deepened(r, fs, us, samples, counts),
+    match asked(r, fs, us) {
+        Err(why) => refusal(r, why),
+        Ok(()) => deepened(r, fs, us, samples, counts),
     }
 }
 
@@ -117,9 +114,8 @@ pub fn depth(r: Receiver, fs: &[f32], us: &[u32], samples: usize, counts: DepthC
 pub fn transmit_depth(r: Receiver, fs: &[f32], us: &[u32], samples: usize) -> Answered
     ensures { Called (transmit_depth samples) r fs.now us.now (answer_of result.answer []) result.receiver fs.now us.now }
 {
-    let verdict = asked(r, fs, us);
-    match verdict {
-        Verdict::No(n) => refusal(r, n),
-        Verdict::Yes => transmitted(r, fs, us, samples),
+    match asked(r, fs, us) {
+        Err(why) => refusal(r, why),
+        Ok(()) => transmitted(r, fs, us, samples),
     }
 }

@@ -5,8 +5,8 @@ ghost use Rattle.calls.specs.Views.{model_side, model_settings};
 ghost use Rattle.receiver_state.specs.View.{answer_of};
 ghost use Rattle.receiver_state.specs.Promises.{Ready, Called};
 
-use calls::{Settings, Side};
-use receiver_state::asking::{Verdict, asked, settings_finite};
+use calls::{Refusal, Settings, Side};
+use receiver_state::asking::{asked, settings_finite};
 use receiver_state::counted::{count_call, refusal};
 use receiver_state::sides::{channel_of, with_channel};
 use receiver_state::{Answer, Answered, Receiver};
@@ -30,7 +30,7 @@ fn adjusted(r: Receiver, fs: &[f32], us: &[u32], side: Side, settings: Settings)
     ensures { Called (set (model_side side) (model_settings settings)) r fs.now us.now (answer_of result.answer []) result.receiver fs.now us.now }
 {
     if !settings_finite(settings) {
-        return refusal(r, 5);
+        return refusal(r, Refusal::NotFinite);
     }
     let before = channel_of(r, side);
     let channel = before.set(settings);
@@ -44,10 +44,9 @@ fn adjusted(r: Receiver, fs: &[f32], us: &[u32], side: Side, settings: Settings)
 pub fn reset(r: Receiver, fs: &[f32], us: &[u32], side: Side) -> Answered
     ensures { Called (reset (model_side side)) r fs.now us.now (answer_of result.answer []) result.receiver fs.now us.now }
 {
-    let verdict = asked(r, fs, us);
-    match verdict {
-        Verdict::No(n) => refusal(r, n),
-        Verdict::Yes => cleared(r, fs, us, side),
+    match asked(r, fs, us) {
+        Err(why) => refusal(r, why),
+        Ok(()) => cleared(r, fs, us, side),
     }
 }
 
@@ -55,9 +54,8 @@ pub fn reset(r: Receiver, fs: &[f32], us: &[u32], side: Side) -> Answered
 pub fn set(r: Receiver, fs: &[f32], us: &[u32], side: Side, settings: Settings) -> Answered
     ensures { Called (set (model_side side) (model_settings settings)) r fs.now us.now (answer_of result.answer []) result.receiver fs.now us.now }
 {
-    let verdict = asked(r, fs, us);
-    match verdict {
-        Verdict::No(n) => refusal(r, n),
-        Verdict::Yes => adjusted(r, fs, us, side, settings),
+    match asked(r, fs, us) {
+        Err(why) => refusal(r, why),
+        Ok(()) => adjusted(r, fs, us, side, settings),
     }
 }

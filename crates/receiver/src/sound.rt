@@ -3,8 +3,8 @@ ghost use Rattle.model.specs.Receiver.{play};
 ghost use Rattle.receiver_state.specs.Promises.{Ready};
 ghost use Rattle.receiver.specs.Promises.{PlayedOut};
 
-use calls::Side;
-use receiver_state::asking::{Verdict, asked};
+use calls::{Refusal, Side};
+use receiver_state::asking::asked;
 use receiver_state::counted::{count_call, refusal};
 use receiver_state::sides::{channel_of, starts, with_channel};
 use receiver_state::{Answer, Answered, Receiver};
@@ -15,7 +15,7 @@ fn played(r: Receiver, fs: &mut [f32], us: &mut [u32], side: Side, out: &mut [f3
     ensures { PlayedOut side r fs.old us.old out.old result fs.new us.new out.new }
 {
     if 65535 < out.len() {
-        return refusal(r, 9);
+        return refusal(r, Refusal::Range);
     }
     let z = r.sizes;
     let begin = starts(z, side);
@@ -38,9 +38,8 @@ fn played(r: Receiver, fs: &mut [f32], us: &mut [u32], side: Side, out: &mut [f3
 pub fn play(r: Receiver, fs: &mut [f32], us: &mut [u32], side: Side, out: &mut [f32]) -> Answered
     ensures { PlayedOut side r fs.old us.old out.old result fs.new us.new out.new }
 {
-    let verdict = asked(r, fs, us);
-    match verdict {
-        Verdict::No(n) => refusal(r, n),
-        Verdict::Yes => played(r, fs, us, side, out),
+    match asked(r, fs, us) {
+        Err(why) => refusal(r, why),
+        Ok(()) => played(r, fs, us, side, out),
     }
 }

@@ -25,6 +25,8 @@ use Rattle.model.specs.Step.{audio_into, counts_after, count_header, dispatch, t
 use Rattle.model.proofs.BoolLaws.{by_test, clash, first_of_both, second_of_both, both_and}
 use Rattle.calls.specs.declared.Side.{Side}
 use Rattle.calls.specs.declared.Side.TheVariants.{A, B}
+use Rattle.calls.specs.declared.Refusal.{Refusal}
+use Rattle.calls.specs.Refusals.{refusal_number}
 use Rattle.calls.specs.Views.{model_side, sizes_of}
 use Rattle.model.proofs.HeldKept.{NextFits}
 use Rattle.jitter_buffer.specs.View.{next_of}
@@ -83,21 +85,22 @@ payload_taken from start version bytes from_is start_is =
 -- ---- refusals
 
 module _ (r : Receiver) (fs : List Float) (us bytes : List ℕ) (ready : Ready r fs us) (are : all (λ b. ltb b 256) bytes ≡ true) where
-  refused_by : (n : ℕ) → first_no (own_questions (sizes_of r.sizes) (datagram bytes)) ≡ some n → DatagramTaken r fs us bytes (record { receiver = r; answer = Answer.Refused n }) fs us
-  refused_by n e = record { called = own_refused r fs us ready (datagram bytes) n are e; row_bins = tt }
+  refused_by : (why : Refusal) → first_no (own_questions (sizes_of r.sizes) (datagram bytes)) ≡ some (refusal_number why)
+      → DatagramTaken r fs us bytes (record { receiver = r; answer = Answer.Refused why }) fs us
+  refused_by why e = record { called = own_refused r fs us ready (datagram bytes) (refusal_number why) are e; row_bins = tt }
 
-  pub too_short_law : length bytes < 16 → DatagramTaken r fs us bytes (record { receiver = r; answer = Answer.Refused 6 }) fs us
+  pub too_short_law : length bytes < 16 → DatagramTaken r fs us bytes (record { receiver = r; answer = Answer.Refused Refusal.Length }) fs us
   unfolding own_questions first_no
-  too_short_law few = refused_by 6 (rw (lt-leb 16 (length bytes) few))
+  too_short_law few = refused_by Refusal.Length (rw (lt-leb 16 (length bytes) few))
 
-  pub too_long_law : 16 ≤ length bytes → 65535 < length bytes → DatagramTaken r fs us bytes (record { receiver = r; answer = Answer.Refused 6 }) fs us
+  pub too_long_law : 16 ≤ length bytes → 65535 < length bytes → DatagramTaken r fs us bytes (record { receiver = r; answer = Answer.Refused Refusal.Length }) fs us
   unfolding own_questions first_no
-  too_long_law enough many = refused_by 6 (rw (le-leb 16 (length bytes) enough, lt-leb (length bytes) 65535 many))
+  too_long_law enough many = refused_by Refusal.Length (rw (le-leb 16 (length bytes) enough, lt-leb (length bytes) 65535 many))
 
-  pub header_refused : (h : Header) (stream : Framing.Stream) (n : ℕ) → length_allowed bytes ≡ true → h ≡ header_fields bytes → stream_in bytes ≡ stream
-      → some n ≡ first_no (header_questions (sizes_of r.sizes) h stream bytes) → DatagramTaken r fs us bytes (record { receiver = r; answer = Answer.Refused n }) fs us
+  pub header_refused : (h : Header) (stream : Framing.Stream) (why : Refusal) → length_allowed bytes ≡ true → h ≡ header_fields bytes → stream_in bytes ≡ stream
+      → some (refusal_number why) ≡ first_no (header_questions (sizes_of r.sizes) h stream bytes) → DatagramTaken r fs us bytes (record { receiver = r; answer = Answer.Refused why }) fs us
   unfolding own_questions first_no
-  header_refused h stream n six fields stream-is refuses = refused_by n (rw six (sym (rw (fields, ← stream-is) at refuses)))
+  header_refused h stream why six fields stream-is refuses = refused_by why (rw six (sym (rw (fields, ← stream-is) at refuses)))
 
 pub length_asked : (bytes : List ℕ) → 16 ≤ length bytes → length bytes ≤ 65535 → length_allowed bytes ≡ true
 length_asked bytes enough few = both_and (le-leb 16 (length bytes) enough) (le-leb (length bytes) 65535 few)

@@ -33,7 +33,7 @@ counted_on B sequence c = c
 
 -- a completed row has 1 to bins values
 abbrev pub RowBins : Answer → ℕ → Type 0
-RowBins (Refused n) bins = Unit {0}
+RowBins (Refused why) bins = Unit {0}
 RowBins Accepted bins = Unit {0}
 RowBins (Played taken dropped short) bins = Unit {0}
 RowBins NoRow bins = Unit {0}

@@ -12,8 +12,8 @@ ghost use Rattle.udp_framing.specs.Views.{header_of};
 ghost use Rattle.receiver_state.specs.Promises.{verdict_of, Ready};
 ghost use Rattle.receiver_datagrams.specs.Promises.{model_stream, counted_on, header_questions, HeaderReady, DatagramTaken};
 
-use calls::{Side, Sizes};
-use receiver_state::asking::{Verdict, asked};
+use calls::{Refusal, Side, Sizes};
+use receiver_state::asking::asked;
 use receiver_state::counted::{count_call, count_header, refusal};
 use receiver_state::sides::{audio_on, waterfall_on};
 use receiver_state::{Answer, Answered, Receiver};
@@ -154,20 +154,20 @@ fn stream_allowed(z: Sizes, stream: Stream, bytes: &[u8]) -> bool
     }
 }
 
-// Questions 7 and 8, in their order.
-fn header_asked(z: Sizes, header: MediaHeader, stream: Stream, bytes: &[u8]) -> Verdict
+// Questions 7 and 8, in their order: the first that is answered with no, if one is.
+fn header_asked(z: Sizes, header: MediaHeader, stream: Stream, bytes: &[u8]) -> Result<(), Refusal>
     requires { 16 ≤ length bytes.now }
     ensures { verdict_of result ≡ first_no (header_questions (sizes_of z) (header_of header) (model_stream stream) bytes.now) }
 {
     let valid = udp_framing::is_valid_header(header);
     let allowed = stream_allowed(z, stream, bytes);
     if !valid {
-        return Verdict::No(7);
+        return Err(Refusal::Header);
     }
     if !allowed {
-        return Verdict::No(8);
+        return Err(Refusal::Total);
     }
-    Verdict::Yes
+    Ok(())
 }
 
 // A datagram that questions 1 to 4 let through.
@@ -176,17 +176,16 @@ fn received(r: Receiver, fs: &mut [f32], us: &mut [u32], bytes: &[u8]) -> Answer
     ensures { DatagramTaken r fs.old us.old bytes.now result fs.new us.new }
 {
     let Some(header) = udp_framing::parse_media_header(bytes) else {
-        return refusal(r, 6);
+        return refusal(r, Refusal::Length);
     };
     if 65535 < bytes.len() {
-        return refusal(r, 6);
+        return refusal(r, Refusal::Length);
     }
     let z = r.sizes;
     let stream = stream_of(header.stream_type);
-    let verdict = header_asked(z, header, stream, bytes);
-    match verdict {
-        Verdict::No(n) => refusal(r, n),
-        Verdict::Yes => dispatched(r, fs, us, bytes, header, stream),
+    match header_asked(z, header, stream, bytes) {
+        Err(why) => refusal(r, why),
+        Ok(()) => dispatched(r, fs, us, bytes, header, stream),
     }
 }
 
@@ -194,9 +193,8 @@ fn received(r: Receiver, fs: &mut [f32], us: &mut [u32], bytes: &[u8]) -> Answer
 pub fn handle_media_packet(r: Receiver, fs: &mut [f32], us: &mut [u32], bytes: &[u8]) -> Answered
     ensures { DatagramTaken r fs.old us.old bytes.now result fs.new us.new }
 {
-    let verdict = asked(r, fs, us);
-    match verdict {
-        Verdict::No(n) => refusal(r, n),
-        Verdict::Yes => received(r, fs, us, bytes),
+    match asked(r, fs, us) {
+        Err(why) => refusal(r, why),
+        Ok(()) => received(r, fs, us, bytes),
     }
 }

@@ -3,6 +3,7 @@ use Prim.Native.Nat.{ℕ, ◌≤◌}
 use mathlib.Core.Path.{◌≡◌, refl, sym, ◌∙◌}
 use mathlib.Core.Bool.{Bool, true, false}
 use mathlib.Core.List.{List}
+use Rattle.std.proofs.Common.{Result}
 use lib.ListN.{length}
 use lib.Seq.{sets}
 use lib.Dec.{leb}
@@ -11,9 +12,9 @@ use borrow.Author.Tests.{leb-true}
 use Rattle.model.proofs.BoolLaws.{clash, first_of_both, second_of_both}
 use Rattle.calls.specs.declared.Sizes.{Sizes}
 use Rattle.calls.specs.declared.Estimates.{Estimates}
+use Rattle.calls.specs.declared.Refusal.{Refusal}
 use Rattle.receiver_state.specs.declared.Receiver.{Receiver}
 use Rattle.receiver_state.specs.declared.Answered.{Answered}
-use Rattle.receiver_setup.specs.declared.Opening.{Opening}
 use Rattle.receiver_setup.specs.Promises.{SetupDone}
 use Rattle.receiver_words.specs.State.{receiver_at, answer_words, state_left, setup_words, setup_left}
 use Rattle.receiver_exports.specs.Exported.{words_there, Promise, Exported, SetupExported}
@@ -43,7 +44,7 @@ module _ (state answer : List ℕ) where
     pub setup_too_short : {r : Bool} → r ≡ words_there state answer → r ≡ false → SetupExported z a b fs us us state answer state answer false
     setup_too_short asked told = record { acts = sym told ∙ asked; short = λ e. (refl, refl, refl); left = λ e. clash (cc) }
 
-    pub setup_acted : {r : Bool} (s : Opening) {us' state' answer' : List ℕ} → r ≡ words_there state answer → r ≡ true → SetupDone z a b fs us s us'
+    pub setup_acted : {r : Bool} (s : Result Receiver Refusal) {us' state' answer' : List ℕ} → r ≡ words_there state answer → r ≡ true → SetupDone z a b fs us s us'
         → (state' ≡ setup_left s state) × (answer' ≡ sets answer 0 (setup_words s)) → SetupExported z a b fs us us' state answer state' answer' true
     setup_acted s asked told done words =
         record {

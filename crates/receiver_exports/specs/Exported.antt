@@ -1,14 +1,14 @@
 -- What the exports promise: the receiver's own promise of the call, at the receiver that the words are, and the words of what it leaves. Assumes nothing.
-use Rattle.std.specs.Prelude.{ℕ, ◌≡◌, Bool, true, false, ◌&&◌, cond, List, [], length, leb, eqb, Float}
+use Rattle.std.specs.Prelude.{ℕ, ◌≡◌, Bool, true, false, ◌&&◌, cond, List, [], length, leb, eqb, Result, Float}
 use Rattle.std.proofs.lemmas.List.Edits.{sets}
 use Rattle.model.specs.Receiver.{Call}
 use Rattle.calls.specs.declared.Side.{Side}
 use Rattle.calls.specs.declared.Side.TheVariants.{A, B}
 use Rattle.calls.specs.declared.Sizes.{Sizes}
 use Rattle.calls.specs.declared.Estimates.{Estimates}
+use Rattle.calls.specs.declared.Refusal.{Refusal}
 use Rattle.receiver_state.specs.declared.Receiver.{Receiver}
 use Rattle.receiver_state.specs.declared.Answered.{Answered}
-use Rattle.receiver_setup.specs.declared.Opening.{Opening}
 use Rattle.receiver_state.specs.View.{answer_of}
 use Rattle.receiver_state.specs.Promises.{Called}
 use Rattle.receiver.specs.Promises.{PlayedOut}
@@ -60,7 +60,7 @@ NoneWritten = Unit {0}
 -- ---- setup
 
 pub record SetupLeft (z : Sizes) (a b : Estimates) (fs : List Float) (us us' state answer state' answer' : List ℕ) : Type 0 where
-  pub set_up_law : Opening
+  pub set_up_law : Result Receiver Refusal
   pub done : SetupDone z a b fs us set_up_law us'
   pub state_left_law : state' ≡ setup_left set_up_law state
   pub answer_left : answer' ≡ sets answer 0 (setup_words set_up_law)

@@ -3,6 +3,7 @@ use mathlib.Core.Path.{◌≡◌, refl, ◌∙◌, ap}
 use mathlib.Core.Bool.{true, false, ◌&&◌}
 use mathlib.Core.Option.{none, some}
 use mathlib.Core.List.{List}
+use Rattle.std.specs.Prelude.{Ok, Err}
 use Prim.Native.Nat.{ℕ, ◌+◌, ◌*◌, ◌≤◌}
 use native.Mathlib.Nat.{add-zero}
 use native.Mathlib.Omega.{arith}
@@ -19,11 +20,12 @@ use Rattle.model.proofs.BoolLaws.{clash, second_of_both}
 use Rattle.model.proofs.ListLaws.{placed_length}
 use Rattle.calls.specs.declared.Sizes.{Sizes}
 use Rattle.calls.specs.declared.Estimates.{Estimates}
+use Rattle.calls.specs.declared.Refusal.{Refusal}
 use Rattle.calls.specs.Views.{sizes_of, model_estimates, model_setup}
+use Rattle.calls.specs.Refusals.{refusal_number}
 use Rattle.areas.proofs.Placed.{part_before, part_within}
 use Rattle.channel.proofs.Sections.{word_section_is}
 use Rattle.receiver_state.specs.declared.Receiver.{Receiver}
-use Rattle.receiver_state.specs.declared.asking.Verdict.TheVariants.{Yes, No}
 use Rattle.receiver_state.specs.View.{state_of, lent_of}
 use Rattle.receiver_setup.specs.Promises.{pictures_zeroed, SetupAccepted}
 use Rattle.receiver_setup.specs.Setup.{SetupReady, SetupAsked, FreshReceiver}
@@ -32,28 +34,28 @@ use Rattle.receiver_state.proofs.StateQuestions.{word_area_is}
 -- ---- questions 1, 2 and 5
 
 module _ (z : Sizes) (a b : Estimates) (fs : List Float) (us : List ℕ) where
-  no_asked : (n : ℕ) → some n ≡ first_no (setup_questions (lent_of fs us) (model_setup z a b)) → SetupAsked z a b fs us (No n)
-  no_asked n is = record { asked = is; ready = λ yes. clash (cc) }
+  no_asked : (why : Refusal) → some (refusal_number why) ≡ first_no (setup_questions (lent_of fs us) (model_setup z a b)) → SetupAsked z a b fs us (Err why)
+  no_asked why is = record { asked = is; ready = λ yes. clash (cc) }
 
-  pub setup_sizes_refused : sizes_allowed (sizes_of z) ≡ false → SetupAsked z a b fs us (No 1)
+  pub setup_sizes_refused : sizes_allowed (sizes_of z) ≡ false → SetupAsked z a b fs us (Err Refusal.Sizes)
   unfolding setup_questions first_no
-  setup_sizes_refused one = no_asked 1 (rw one)
+  setup_sizes_refused one = no_asked Refusal.Sizes (rw one)
 
   module _ (one : sizes_allowed (sizes_of z) ≡ true) where
-    pub setup_areas_refused : areas_long (lent_of fs us) (sizes_of z) ≡ false → SetupAsked z a b fs us (No 2)
+    pub setup_areas_refused : areas_long (lent_of fs us) (sizes_of z) ≡ false → SetupAsked z a b fs us (Err Refusal.NoRoom)
     unfolding setup_questions first_no
-    setup_areas_refused two = no_asked 2 (rw (one, two))
+    setup_areas_refused two = no_asked Refusal.NoRoom (rw (one, two))
 
     module _ (two : areas_long (lent_of fs us) (sizes_of z) ≡ true) where
-      pub setup_estimates_refused : estimates_finite (model_estimates a) && estimates_finite (model_estimates b) ≡ false → SetupAsked z a b fs us (No 5)
+      pub setup_estimates_refused : estimates_finite (model_estimates a) && estimates_finite (model_estimates b) ≡ false → SetupAsked z a b fs us (Err Refusal.NotFinite)
       unfolding setup_questions first_no
-      setup_estimates_refused five = no_asked 5 (rw (one, two, five))
+      setup_estimates_refused five = no_asked Refusal.NotFinite (rw (one, two, five))
 
       words_long : word_area (sizes_of z) ≤ length us
       unfolding areas_long
       words_long = leb-true _ _ (second_of_both (leb (float_area (sizes_of z)) (length fs)) (leb (word_area (sizes_of z)) (length us)) two)
 
-      pub setup_all_yes : estimates_finite (model_estimates a) && estimates_finite (model_estimates b) ≡ true → SetupAsked z a b fs us Yes
+      pub setup_all_yes : estimates_finite (model_estimates a) && estimates_finite (model_estimates b) ≡ true → SetupAsked z a b fs us (Ok tt)
       unfolding setup_questions first_no
       setup_all_yes five = record { asked = rw (one, two, five); ready = λ yes. record { allowed = one; words = words_long } }
 

@@ -1,16 +1,16 @@
 -- What setup promises. Assumes nothing.
-use Rattle.std.specs.Prelude.{ℕ, ◌+◌, ◌*◌, ◌≡◌, List, length, replicate, Float}
+use Rattle.std.specs.Prelude.{ℕ, ◌+◌, ◌*◌, ◌≡◌, Result, Ok, Err, List, length, replicate, Float}
 use Rattle.model.specs.Bytes.{placed}
 use Rattle.model.specs.Sizes.{most_waiting, word_section}
 use Rattle.model.specs.Receiver.{fresh}
 use Rattle.model.specs.Questions.{set_up, opened, not_opened}
 use Rattle.calls.specs.declared.Sizes.{Sizes}
 use Rattle.calls.specs.declared.Estimates.{Estimates}
+use Rattle.calls.specs.declared.Refusal.{Refusal}
 use Rattle.calls.specs.Views.{sizes_of, model_setup}
+use Rattle.calls.specs.Refusals.{refusal_number}
 use Rattle.receiver_state.specs.declared.Receiver.{Receiver}
 use Rattle.receiver_state.specs.View.{state_of, lent_of}
-use Rattle.receiver_setup.specs.declared.Opening.{Opening}
-use Rattle.receiver_setup.specs.declared.Opening.TheVariants as Setting
 
 -- the u32 area with both pictures zeroed: A's, and then B's
 abbrev pub pictures_zeroed : Sizes → List ℕ → List ℕ
@@ -26,6 +26,6 @@ pub record SetupAccepted (z : Sizes) (a b : Estimates) (fs : List Float) (us : L
   pub word_length : length us' ≡ length us
 
 -- a refused setup changes nothing
-abbrev pub SetupDone : Sizes → Estimates → Estimates → List Float → List ℕ → Opening → List ℕ → Type 0
-SetupDone z a b fs us (Setting.Refused n) us' = (set_up (lent_of fs us) (model_setup z a b) ≡ not_opened n) × (us' ≡ us)
-SetupDone z a b fs us (Setting.Ready r) us' = SetupAccepted z a b fs us r us'
+abbrev pub SetupDone : Sizes → Estimates → Estimates → List Float → List ℕ → Result Receiver Refusal → List ℕ → Type 0
+SetupDone z a b fs us (Err why) us' = (set_up (lent_of fs us) (model_setup z a b) ≡ not_opened (refusal_number why)) × (us' ≡ us)
+SetupDone z a b fs us (Ok r) us' = SetupAccepted z a b fs us r us'

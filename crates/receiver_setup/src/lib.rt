@@ -6,36 +6,28 @@ ghost use Rattle.receiver_setup.specs.Promises.{pictures_zeroed, SetupDone};
 ghost use Rattle.receiver_setup.specs.Setup.{SetupReady, SetupAsked, FreshReceiver};
 
 use audio_metrics::AudioMetrics;
-use calls::{Estimates, Sizes};
+use calls::{Estimates, Refusal, Sizes};
 use channel::Channel;
 use receiver_state::Receiver;
-use receiver_state::asking::{Verdict, areas_long, both_finite};
+use receiver_state::asking::{areas_long, both_finite};
 use udp::StreamCounts;
 
-// What setup answers.
-#[derive(Clone, Copy)]
-pub enum Opening {
-    // The number of the first question that was answered with no. Nothing was changed.
-    Refused(u32),
-    Ready(Receiver),
-}
-
-// Questions 1, 2 and 5, in their order.
-fn setup_asked(z: Sizes, a: Estimates, b: Estimates, fs: &[f32], us: &[u32]) -> Verdict
+// Questions 1, 2 and 5, in their order: the first that is answered with no, if one is.
+fn setup_asked(z: Sizes, a: Estimates, b: Estimates, fs: &[f32], us: &[u32]) -> Result<(), Refusal>
     ensures { SetupAsked z a b fs.now us.now result }
 {
     if !sizes::allowed(z) {
-        return Verdict::No(1);
+        return Err(Refusal::Sizes);
     }
     let long = areas_long(z, fs, us);
     let finite = both_finite(a, b);
     if !long {
-        return Verdict::No(2);
+        return Err(Refusal::NoRoom);
     }
     if !finite {
-        return Verdict::No(5);
+        return Err(Refusal::NotFinite);
     }
-    Verdict::Yes
+    Ok(())
 }
 
 // Both pictures zeroed. The rest of the area stays.
@@ -71,16 +63,18 @@ fn fresh_receiver(z: Sizes, a: Estimates, b: Estimates) -> Receiver
     }
 }
 
-// A receiver of these sizes and estimates, over areas that may hold anything. Only the u32 area is written.
-pub fn setup(z: Sizes, a: Estimates, b: Estimates, fs: &[f32], us: &mut [u32]) -> Opening
+// A receiver of these sizes and estimates, over areas that may hold anything; or the first question that was answered
+// with no. Only the u32 area is written, and where setup is refused nothing.
+pub fn setup(
+    z: Sizes,
+    a: Estimates,
+    b: Estimates,
+    fs: &[f32],
+    us: &mut [u32],
+) -> Result<Receiver, Refusal>
     ensures { SetupDone z a b fs.now us.old result us.new }
 {
-    let verdict = setup_asked(z, a, b, fs, us);
-    match verdict {
-        Verdict::No(n) => Opening::Refused(n),
-        Verdict::Yes => {
-            zero_pictures(z, us);
-            Opening::Ready(fresh_receiver(z, a, b))
-        }
-    }
+    setup_asked(z, a, b, fs, us)?;
+    zero_pictures(z, us);
+    Ok(fresh_receiver(z, a, b))
 }

@@ -7,6 +7,7 @@ use native.Mathlib.Nat.{sub-zero}
 use native.Mathlib.Omega.{arith}
 use lib.ListN.{length, drop, length-drop}
 use lib.Ieee.{Float}
+use Rattle.std.specs.Prelude.{Ok}
 use borrow.Author.Tests.{le-leb, lt-ltb}
 use Rattle.model.specs.Sizes.{sizes_allowed}
 use Rattle.model.specs.JitterBuffer.{buffered}
@@ -21,7 +22,6 @@ use Rattle.jitter_buffer.proofs.FillView.{queue_length}
 use Rattle.channel.specs.View.{row_at, channel_in}
 use Rattle.channel.proofs.Sections.{float_section_is}
 use Rattle.receiver_state.specs.declared.Receiver.{Receiver}
-use Rattle.receiver_state.specs.declared.readings.Buffered.TheVariants.{Samples}
 use Rattle.receiver_state.specs.View.{float_start, word_start, channel_at}
 use Rattle.receiver_state.specs.Promises.{Ready}
 use Rattle.receiver_state.specs.Readings.{buffered_in}
@@ -47,7 +47,7 @@ module _ (z : Sizes) (one : sizes_allowed (sizes_of z) ≡ true) where
 module _ (r : Receiver) (fs : List Float) (us : List ℕ) (ready : Ready r fs us) where
   pub buffered_reads : (side : Side)
       → buffered_in r.sizes (channel_at side r).jitter
-      ≡ Samples
+      ≡ Ok
       (buffered (sizes_of r.sizes)
       (channel_in r.sizes (channel_at side r) (drop (float_start (sizes_of r.sizes) side) fs) (drop (word_start (sizes_of r.sizes) side) us)).buffer)
   unfolding buffered

@@ -3,6 +3,7 @@ use mathlib.Core.Path.{◌≡◌, refl, sym}
 use mathlib.Core.Bool.{Bool, true, false, false≢true}
 use mathlib.Core.Option.{some}
 use mathlib.Core.List.{List}
+use Rattle.std.specs.Prelude.{Ok, Err}
 use Prim.Native.Nat.{ℕ, ◌+◌, ◌-◌, ◌*◌, ◌≤◌, ◌<◌}
 use native.Mathlib.Omega.{arith}
 use lib.ListN.{length, take, drop, length-drop}
@@ -17,14 +18,15 @@ use Rattle.model.proofs.BoolLaws.{clash}
 use Rattle.model.proofs.HeldKept.{NextFits}
 use Rattle.calls.specs.declared.Side.{Side}
 use Rattle.calls.specs.declared.Side.TheVariants.{A, B}
+use Rattle.calls.specs.declared.Refusal.{Refusal}
 use Rattle.calls.specs.Views.{sizes_of}
+use Rattle.calls.specs.Refusals.{refusal_number}
 use Rattle.jitter_buffer.specs.View.{next_of}
 use Rattle.audio_metrics.specs.Views.{clock_of}
 use Rattle.udp.specs.Views.{counts_of}
 use Rattle.channel.specs.View.{channel_in, Inside}
 use Rattle.channel.specs.Promises.{Asked, ChannelAsked}
 use Rattle.receiver_state.specs.declared.Receiver.{Receiver}
-use Rattle.receiver_state.specs.declared.asking.Verdict.TheVariants.{Yes, No}
 use Rattle.receiver_state.specs.View.{float_start, word_start, channel_at, state_of, lent_of}
 use Rattle.receiver_state.specs.Promises.{early_questions, StateAsked, EarlyAsked}
 
@@ -119,34 +121,34 @@ module _ (r : Receiver) (us : List ℕ) (allowed : sizes_allowed (sizes_of r.siz
 -- ---- questions 1 to 4
 
 module _ (r : Receiver) (fs : List Float) (us : List ℕ) where
-  no_verdict : (n : ℕ) → some n ≡ first_no (early_questions (lent_of fs us) (state_of r fs us)) → EarlyAsked r fs us (No n)
-  no_verdict n is = record { asked = is; ready = λ yes. clash (cc) }
+  no_verdict : (why : Refusal) → some (refusal_number why) ≡ first_no (early_questions (lent_of fs us) (state_of r fs us)) → EarlyAsked r fs us (Err why)
+  no_verdict why is = record { asked = is; ready = λ yes. clash (cc) }
 
-  pub sizes_refused : sizes_allowed (sizes_of r.sizes) ≡ false → EarlyAsked r fs us (No 1)
+  pub sizes_refused : sizes_allowed (sizes_of r.sizes) ≡ false → EarlyAsked r fs us (Err Refusal.Sizes)
   unfolding first_no
-  sizes_refused one = no_verdict 1 (rw one)
+  sizes_refused one = no_verdict Refusal.Sizes (rw one)
 
   module _ (one : sizes_allowed (sizes_of r.sizes) ≡ true) where
-    pub floats_refused : length fs < float_area (sizes_of r.sizes) → EarlyAsked r fs us (No 2)
+    pub floats_refused : length fs < float_area (sizes_of r.sizes) → EarlyAsked r fs us (Err Refusal.NoRoom)
     unfolding first_no areas_long
-    floats_refused few = no_verdict 2 (rw (one, lt-leb _ _ few))
+    floats_refused few = no_verdict Refusal.NoRoom (rw (one, lt-leb _ _ few))
 
     module _ (floats : float_area (sizes_of r.sizes) ≤ length fs) where
-      pub words_refused : length us < word_area (sizes_of r.sizes) → EarlyAsked r fs us (No 2)
+      pub words_refused : length us < word_area (sizes_of r.sizes) → EarlyAsked r fs us (Err Refusal.NoRoom)
       unfolding first_no areas_long
-      words_refused few = no_verdict 2 (rw (one, le-leb _ _ floats, lt-leb _ _ few))
+      words_refused few = no_verdict Refusal.NoRoom (rw (one, le-leb _ _ floats, lt-leb _ _ few))
 
       module _ (words : word_area (sizes_of r.sizes) ≤ length us) where
-        pub state_refused : StateAsked r us false → EarlyAsked r fs us (No 3)
+        pub state_refused : StateAsked r us false → EarlyAsked r fs us (Err Refusal.NotHeld)
         unfolding first_no areas_long
-        state_refused told = no_verdict 3 (rw (one, le-leb _ _ floats, le-leb _ _ words, ← told.asked fs floats))
+        state_refused told = no_verdict Refusal.NotHeld (rw (one, le-leb _ _ floats, le-leb _ _ words, ← told.asked fs floats))
 
         module _ (told : StateAsked r us true) where
-          pub calls_refused : most_calls ≤ r.calls → EarlyAsked r fs us (No 4)
+          pub calls_refused : most_calls ≤ r.calls → EarlyAsked r fs us (Err Refusal.TooManyCalls)
           unfolding first_no areas_long
-          calls_refused full = no_verdict 4 (rw (one, le-leb _ _ floats, le-leb _ _ words, ← told.asked fs floats, le-ltb r.calls most_calls full))
+          calls_refused full = no_verdict Refusal.TooManyCalls (rw (one, le-leb _ _ floats, le-leb _ _ words, ← told.asked fs floats, le-ltb r.calls most_calls full))
 
-          pub all_yes : r.calls < most_calls → EarlyAsked r fs us Yes
+          pub all_yes : r.calls < most_calls → EarlyAsked r fs us (Ok tt)
           unfolding first_no areas_long
           all_yes few =
               record {

@@ -1,6 +1,6 @@
 -- What a call promises, one record for the eight of them, over the model's call and answer; and what questions 1 to 4 and the work on one channel
 -- ask and promise. Assumes nothing.
-use Rattle.std.specs.Prelude.{ℕ, ◌+◌, ◌*◌, ◌≤◌, ◌<◌, ◌≡◌, Bool, true, false, List, [], ◌∷◌, length, drop, ltb, Float}
+use Rattle.std.specs.Prelude.{ℕ, ◌+◌, ◌*◌, ◌≤◌, ◌<◌, ◌≡◌, Bool, true, false, Result, Ok, Err, List, [], ◌∷◌, length, drop, ltb, Float}
 use Rattle.std.proofs.Math.Option.{Option, none, some}
 use Rattle.model.specs.Sizes as Sizing
 use Rattle.model.specs.Sizes.{sizes_allowed, float_area, word_area}
@@ -11,14 +11,14 @@ use Rattle.model.specs.Step.{ChannelResult, step, on_side, waterfall_into}
 use Rattle.model.specs.WholeList.{CallBytes}
 use Rattle.model.proofs.HeldKept.{NextFits}
 use Rattle.calls.specs.declared.Side.{Side}
+use Rattle.calls.specs.declared.Refusal.{Refusal}
 use Rattle.calls.specs.Views.{model_side, sizes_of}
+use Rattle.calls.specs.Refusals.{refusal_number}
 use Rattle.jitter_buffer.specs.View.{next_of}
 use Rattle.reassembler.specs.Rows.{completed_of, CompletedInside}
 use Rattle.channel.specs.View.{channel_in, Inside}
 use Rattle.receiver_state.specs.declared.Receiver.{Receiver}
 use Rattle.receiver_state.specs.declared.sides.RowsShown.{RowsShown}
-use Rattle.receiver_state.specs.declared.asking.Verdict.{Verdict}
-use Rattle.receiver_state.specs.declared.asking.Verdict.TheVariants.{Yes, No}
 use Rattle.receiver_state.specs.View.{state_of, lent_of, float_start, word_start, row_place, channel_at}
 
 -- ---- the calls
@@ -46,9 +46,10 @@ abbrev pub early_questions : Model.Lent → State → List Question
 early_questions lent s =
     ask 1 (sizes_allowed s.sizes) ∷ ask 2 (areas_long lent s.sizes) ∷ ask 3 (held s) ∷ ask 4 (ltb s.calls most_calls) ∷ []
 
-abbrev pub verdict_of : Verdict → Option ℕ
-verdict_of Yes = none
-verdict_of (No n) = some n
+-- the number of the first question that was answered with no, if one was
+abbrev pub verdict_of : Result (Unit {0}) Refusal → Option ℕ
+verdict_of (Ok _) = none
+verdict_of (Err why) = some (refusal_number why)
 
 -- what the four answers let a call take for granted
 pub record Ready (r : Receiver) (fs : List Float) (us : List ℕ) : Type 0 where
@@ -60,9 +61,9 @@ pub record Ready (r : Receiver) (fs : List Float) (us : List ℕ) : Type 0 where
   pub inside : (side : Side) → Inside r.sizes (channel_at side r)
   pub next : (side : Side) → NextFits (next_of (channel_at side r).jitter.next_sequence)
 
-pub record EarlyAsked (r : Receiver) (fs : List Float) (us : List ℕ) (v : Verdict) : Type 0 where
+pub record EarlyAsked (r : Receiver) (fs : List Float) (us : List ℕ) (v : Result (Unit {0}) Refusal) : Type 0 where
   pub asked : verdict_of v ≡ first_no (early_questions (lent_of fs us) (state_of r fs us))
-  pub ready : v ≡ Yes → Ready r fs us
+  pub ready : v ≡ Ok tt → Ready r fs us
 
 -- question 3: the answer is the model's, whatever floats stand in an area that is long enough; a yes tells the ranges of the fields
 pub record StateAsked (r : Receiver) (us : List ℕ) (v : Bool) : Type 0 where

@@ -8,6 +8,7 @@ use Rattle.model.specs.Receiver as Model
 use Rattle.calls.specs.declared.Side.{Side}
 use Rattle.calls.specs.declared.Side.TheVariants.{A, B}
 use Rattle.calls.specs.Views.{sizes_of}
+use Rattle.calls.specs.Refusals.{refusal_number}
 use Rattle.audio_metrics.specs.Views.{clock_of}
 use Rattle.udp.specs.Views.{counts_of}
 use Rattle.channel.specs.declared.Channel.{Channel}
@@ -62,7 +63,7 @@ lent_of fs us = record { floats = length fs; words = length us }
 
 -- a play's samples are the output's; a row's values are the first of those from its place on
 abbrev pub answer_of : Answer → List Float → Model.Answer
-answer_of (Refused n) values = Model.refused n
+answer_of (Refused why) values = Model.refused (refusal_number why)
 answer_of Accepted values = Model.accepted
 answer_of (Played taken dropped short) values = Model.played (record { samples = values; taken = taken; dropped = dropped; short = short })
 answer_of NoRow values = Model.row none

@@ -7,14 +7,7 @@ ghost use Rattle.receiver_state.specs.View.{lent_of};
 ghost use Rattle.receiver_state.specs.Promises.{StateAsked, EarlyAsked};
 
 use crate::Receiver;
-use calls::{Estimates, Settings, Sizes};
-
-// The number of the first question that is answered with no, if one is.
-#[derive(Clone, Copy)]
-pub enum Verdict {
-    Yes,
-    No(u32),
-}
+use calls::{Estimates, Refusal, Settings, Sizes};
 
 // Question 3: whether a receiver could hold this state.
 fn could_be_held(r: Receiver, us: &[u32]) -> bool
@@ -47,27 +40,27 @@ fn could_be_held(r: Receiver, us: &[u32]) -> bool
     waterfall.could_be_held(calls)
 }
 
-// Questions 1 to 4, in their order.
-pub fn asked(r: Receiver, fs: &[f32], us: &[u32]) -> Verdict
+// Questions 1 to 4, in their order: the first that is answered with no, if one is.
+pub fn asked(r: Receiver, fs: &[f32], us: &[u32]) -> Result<(), Refusal>
     ensures { EarlyAsked r fs.now us.now result }
 {
     let z = r.sizes;
     if !sizes::allowed(z) {
-        return Verdict::No(1);
+        return Err(Refusal::Sizes);
     }
     if fs.len() < sizes::float_area(z) {
-        return Verdict::No(2);
+        return Err(Refusal::NoRoom);
     }
     if us.len() < sizes::word_area(z) {
-        return Verdict::No(2);
+        return Err(Refusal::NoRoom);
     }
     if !could_be_held(r, us) {
-        return Verdict::No(3);
+        return Err(Refusal::NotHeld);
     }
     if r.calls >= 4294967295 {
-        return Verdict::No(4);
+        return Err(Refusal::TooManyCalls);
     }
-    Verdict::Yes
+    Ok(())
 }
 
 // Question 2: whether both areas are long enough.

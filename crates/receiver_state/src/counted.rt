@@ -7,15 +7,16 @@ ghost use Rattle.receiver_state.specs.Fields.{counted, clock_set, header_set};
 
 use crate::{Answer, Answered, Receiver};
 use audio_metrics::AudioMetrics;
+use calls::Refusal;
 use udp::StreamCounts;
 
 // What a refused call leaves and answers: the receiver as it came.
-pub fn refusal(r: Receiver, n: u32) -> Answered
-    ensures { result ≡ record { receiver = r; answer = Answer.Refused n } }
+pub fn refusal(r: Receiver, why: Refusal) -> Answered
+    ensures { result ≡ record { receiver = r; answer = Answer.Refused why } }
 {
     Answered {
         receiver: r,
-        answer: Answer::Refused(n),
+        answer: Answer::Refused(why),
     }
 }
 

@@ -9,7 +9,7 @@ pub mod report;
 pub mod sides;
 
 use audio_metrics::AudioMetrics;
-use calls::Sizes;
+use calls::{Refusal, Sizes};
 use channel::Channel;
 use udp::StreamCounts;
 
@@ -31,8 +31,8 @@ pub struct Receiver {
 // What a call answers.
 #[derive(Clone, Copy)]
 pub enum Answer {
-    // The number of the first question that was answered with no. Nothing was changed.
-    Refused(u32),
+    // The first question that was answered with no. Nothing was changed.
+    Refused(Refusal),
     Accepted,
     // A play: samples taken from the queue, dropped before them, and made up behind them.
     Played {

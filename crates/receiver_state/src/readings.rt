@@ -8,71 +8,57 @@ ghost use Rattle.receiver_state.specs.Readings.{picture_place, place_in, buffere
 
 use crate::Receiver;
 use crate::sides::{channel_of, starts};
-use calls::{Side, Sizes};
+use calls::{Refusal, Side, Sizes};
 use jitter_buffer::JitterBuffer;
 
-// A place in a lent area.
-#[derive(Clone, Copy)]
-pub enum Place {
-    At(usize),
-    // Sizes that question 1 refuses have no places.
-    NoSizes,
-}
-
-// How much a channel buffers.
-#[derive(Clone, Copy)]
-pub enum Buffered {
-    Samples(usize),
-    // The state's sizes are refused by question 1.
-    NotAllowed,
-    // More waits or is queued than the sections hold: question 3 refuses the state.
-    TooLong,
-}
-
-// Where a channel's row begins in the f32 area: the values of a completed row stand there.
-pub fn row_place(z: Sizes, side: Side) -> Place
+// Where a channel's row begins in the f32 area: the values of a completed row stand there. Sizes that question 1 refuses have
+// no places.
+pub fn row_place(z: Sizes, side: Side) -> Option<usize>
     ensures { result ≡ place_in z (row_place (sizes_of z) side) }
 {
     if !sizes::allowed(z) {
-        return Place::NoSizes;
+        return None;
     }
     let begin = starts(z, side);
     let offsets = sizes::section_offsets(z);
     let at = begin.floats + offsets.row;
-    Place::At(at)
+    Some(at)
 }
 
 // Where a channel's picture begins in the u32 area: width × height colours, the top row first.
-pub fn picture_place(z: Sizes, side: Side) -> Place
+// Sizes that question 1 refuses have no places.
+pub fn picture_place(z: Sizes, side: Side) -> Option<usize>
     ensures { result ≡ place_in z (picture_place (sizes_of z) side) }
 {
     if !sizes::allowed(z) {
-        return Place::NoSizes;
+        return None;
     }
     let from = starts(z, side);
     let most = sizes::most_waiting(z);
     let at = from.words + most;
-    Place::At(at)
+    Some(at)
 }
 
-// The samples that a buffer holds over sections of these sizes.
-fn buffered_in(z: Sizes, jitter: JitterBuffer) -> Buffered
+// The samples that a buffer holds over sections of these sizes. Question 1 refuses the sizes, or question 3 a buffer in which
+// more waits or is queued than the sections hold.
+fn buffered_in(z: Sizes, jitter: JitterBuffer) -> Result<usize, Refusal>
     ensures { result ≡ buffered_in z jitter }
 {
     if !sizes::allowed(z) {
-        return Buffered::NotAllowed;
+        return Err(Refusal::Sizes);
     }
     if jitter.pending_len > sizes::most_waiting(z) {
-        return Buffered::TooLong;
+        return Err(Refusal::NotHeld);
     }
     if jitter.playout_len >= z.target + z.packet {
-        return Buffered::TooLong;
+        return Err(Refusal::NotHeld);
     }
-    Buffered::Samples(jitter.buffered_samples(z))
+    Ok(jitter.buffered_samples(z))
 }
 
-// The samples that a channel buffers: those queued for play, and those of waiting packets.
-pub fn buffered_samples(r: Receiver, side: Side) -> Buffered
+// The samples that a channel buffers: those queued for play, and those of waiting packets; or the question that
+// refuses the state.
+pub fn buffered_samples(r: Receiver, side: Side) -> Result<usize, Refusal>
     ensures { result ≡ buffered_in r.sizes (channel_at side r).jitter }
 {
     let z = r.sizes;

@@ -1,5 +1,5 @@
 -- The receiver that 90 words are, the 90 words of a receiver, and the four words of an answer. Assumes nothing.
-use Rattle.std.specs.Prelude.{ℕ, Bool, true, false, cond, List, [], ◌∷◌, ◌++◌, get_or, drop, ℤ, Option, None, Some}
+use Rattle.std.specs.Prelude.{ℕ, Bool, true, false, cond, List, [], ◌∷◌, ◌++◌, get_or, drop, ℤ, Option, None, Some, Result, Ok, Err}
 use Rattle.std.proofs.Math.Option as Maybe
 use Rattle.std.proofs.Math.Option.{none, some}
 use Rattle.std.proofs.lemmas.List.Edits.{sets}
@@ -9,13 +9,13 @@ use Rattle.audio_metrics.specs.declared.JitterDepth.{JitterDepth}
 use Rattle.audio_metrics.specs.declared.AudioMetrics.{AudioMetrics}
 use Rattle.audio_metrics.specs.Views.{clock_of}
 use Rattle.audio_metrics_words.specs.Words.{clock_in, clock_words}
+use Rattle.calls.specs.declared.Refusal.{Refusal}
+use Rattle.calls.specs.Refusals.{refusal_number}
 use Rattle.channel.specs.declared.Channel.{Channel}
 use Rattle.receiver_state.specs.declared.Receiver.{Receiver}
 use Rattle.receiver_state.specs.declared.Answer.{Answer}
 use Rattle.receiver_state.specs.declared.Answer.TheVariants.{Refused, Accepted, Played, NoRow, Row}
 use Rattle.receiver_state.specs.declared.Answered.{Answered}
-use Rattle.receiver_setup.specs.declared.Opening.{Opening}
-use Rattle.receiver_setup.specs.declared.Opening.TheVariants as Setting
 use Rattle.receiver_words.specs.Words.{sizes_in, counts_in, buffer_in, screen_in, count_words, buffer_words, screen_words}
 
 -- ---- the clock of the model's clock
@@ -83,14 +83,14 @@ receiver_words r =
 
 -- 0 and a refusal's number; 1: accepted; 2, taken, dropped and short; 3: no row; 4 and the bins of a completed row
 abbrev pub answer_words : Answer → List ℕ
-answer_words (Refused n) = 0 ∷ n ∷ 0 ∷ 0 ∷ []
+answer_words (Refused why) = 0 ∷ refusal_number why ∷ 0 ∷ 0 ∷ []
 answer_words Accepted = 1 ∷ 0 ∷ 0 ∷ 0 ∷ []
 answer_words (Played taken dropped short) = 2 ∷ taken ∷ dropped ∷ short ∷ []
 answer_words NoRow = 3 ∷ 0 ∷ 0 ∷ 0 ∷ []
 answer_words (Row n) = 4 ∷ n ∷ 0 ∷ 0 ∷ []
 
 abbrev pub is_refused : Answer → Bool
-is_refused (Refused n) = true
+is_refused (Refused why) = true
 is_refused Accepted = false
 is_refused (Played taken dropped short) = false
 is_refused NoRow = false
@@ -101,10 +101,10 @@ unfoldable pub state_left : Answered → List ℕ → List ℕ
 state_left v w = cond (is_refused v.answer) w (sets w 0 (receiver_words v.receiver))
 
 -- setup's answer: 0 and a refusal's number, or 1
-abbrev pub setup_words : Opening → List ℕ
-setup_words (Setting.Refused n) = 0 ∷ n ∷ 0 ∷ 0 ∷ []
-setup_words (Setting.Ready r) = 1 ∷ 0 ∷ 0 ∷ 0 ∷ []
+abbrev pub setup_words : Result Receiver Refusal → List ℕ
+setup_words (Err why) = 0 ∷ refusal_number why ∷ 0 ∷ 0 ∷ []
+setup_words (Ok r) = 1 ∷ 0 ∷ 0 ∷ 0 ∷ []
 
-abbrev pub setup_left : Opening → List ℕ → List ℕ
-setup_left (Setting.Refused n) w = w
-setup_left (Setting.Ready r) w = sets w 0 (receiver_words r)
+abbrev pub setup_left : Result Receiver Refusal → List ℕ → List ℕ
+setup_left (Err why) w = w
+setup_left (Ok r) w = sets w 0 (receiver_words r)

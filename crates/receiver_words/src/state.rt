@@ -8,9 +8,9 @@ use crate::words::{
     buffer_from, buffer_words, count_words, counts_from, screen_from, screen_words, sizes_from,
 };
 use audio_metrics_words::to_words;
+use calls::Refusal;
 use channel::Channel;
 use numbers::put;
-use receiver_setup::Opening;
 use receiver_state::{Answer, Answered, Receiver};
 
 fn channel_from(w: &[u64]) -> Channel
@@ -82,7 +82,7 @@ fn answer_words(a: Answer) -> [u64; 4]
     ensures { result ≡ answer_words a }
 {
     match a {
-        Answer::Refused(n) => [0, n as u64, 0, 0],
+        Answer::Refused(why) => [0, why.number() as u64, 0, 0],
         Answer::Accepted => [1, 0, 0, 0],
         Answer::Played {
             taken,
@@ -124,13 +124,13 @@ pub fn leave(state: &mut [u64], answer: &mut [u64], v: Answered)
 }
 
 // What setup left and answered, in words. A refusal leaves the state's as they were.
-pub fn leave_setup(state: &mut [u64], answer: &mut [u64], s: Opening)
+pub fn leave_setup(state: &mut [u64], answer: &mut [u64], s: Result<Receiver, Refusal>)
     requires { (90 ≤ length state.old) × (4 ≤ length answer.old) }
     ensures { (state.new ≡ setup_left s state.old) × (answer.new ≡ sets answer.old 0 (setup_words s)) }
 {
     match s {
-        Opening::Refused(n) => put(answer, 0, &[0, n as u64, 0, 0]),
-        Opening::Ready(r) => {
+        Err(why) => put(answer, 0, &[0, why.number() as u64, 0, 0]),
+        Ok(r) => {
             put(answer, 0, &[1, 0, 0, 0]);
             write_receiver(state, r);
         }

@@ -7,7 +7,6 @@
 
 mod rounds;
 
-use receiver_setup::Opening;
 use receiver_state::Receiver;
 use std::io::Stdin;
 use udp_framing::big_endian::BigEndian;
@@ -34,8 +33,7 @@ fn repeat(tape: &mut [u8], count: u32, fs: &mut [f32], us: &mut [u32], samples: 
         say(b"repeat_tape: the tape is refused\n");
         return;
     };
-    let opening = receiver_setup::setup(setup.sizes, setup.a, setup.b, fs, us);
-    let Opening::Ready(begun) = opening else {
+    let Ok(begun) = receiver_setup::setup(setup.sizes, setup.a, setup.b, fs, us) else {
         say(b"repeat_tape: the setup is refused\n");
         return;
     };

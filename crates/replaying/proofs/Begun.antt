@@ -8,6 +8,8 @@ use lib.Ieee.{Float}
 use Rattle.std.proofs.Common.{Option, Some}
 use Rattle.model.specs.Framing.{Side}
 use Rattle.model.specs.Replay.{decimal, line, answer_line}
+use Rattle.calls.specs.declared.Refusal.{Refusal}
+use Rattle.calls.specs.Refusals.{refusal_number}
 use Rattle.text.proofs.WrittenLaws.{none_placed}
 use Rattle.lines.specs.Lines.{head, Piece}
 use Rattle.lines.proofs.Pieces.{piece_length, piece_target, play_line_pieces, row_line_pieces, refused_line_is}
@@ -26,10 +28,11 @@ piece_begun {most} {written} {text} {entry} side a left left_is room piece answe
     record { text = text; written = piece_length piece room answered; target = piece_target piece room; left = left_is; line = is }
 
 module _ (side : Side) {written : ℕ} {entry exit : List ℕ} {p : Option ℕ} (room : 66 ≤ length entry) (answered : p ≡ Some written) where
-  pub refused_begun : (n : ℕ) → Piece 23 (line 88 (map decimal (n ∷ []))) entry exit p
-      → LineBegun side (Refused n) entry exit (record { written = written; left = Nothing })
+  pub refused_begun : (why : Refusal) → Piece 23 (line 88 (map decimal (refusal_number why ∷ []))) entry exit p
+      → LineBegun side (Refused why) entry exit (record { written = written; left = Nothing })
   unfolding answer_line
-  refused_begun n piece = piece_begun side (Refused n) Nothing refl (omega arith) piece answered (λ values. refused_line_is n ∙ sym (append-nil _))
+  refused_begun why piece =
+      piece_begun side (Refused why) Nothing refl (omega arith) piece answered (λ values. refused_line_is (refusal_number why) ∙ sym (append-nil _))
 
   pub played_begun : (taken dropped short : ℕ) → Piece 66 (head 80 side (taken ∷ dropped ∷ short ∷ [])) entry exit p
       → LineBegun side (Played taken dropped short) entry exit (record { written = written; left = Samples })

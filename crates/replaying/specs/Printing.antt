@@ -23,7 +23,7 @@ left_of (Values n) values = values_ended (take n values)
 
 -- a play has its samples left, and a row its values
 abbrev pub left_behind : Answer → Left
-left_behind (Refused n) = Nothing
+left_behind (Refused why) = Nothing
 left_behind Accepted = Nothing
 left_behind (Played taken dropped short) = Samples
 left_behind NoRow = Nothing

@@ -29,8 +29,8 @@ pub fn begin_line(text: &mut [u8], side: Side, answer: Answer) -> Begun
     ensures { LineBegun (model_side side) answer text.old text.new result }
 {
     match answer {
-        Answer::Refused(n) => Begun {
-            written: lines::put_line(text, b'X', &[n as u64]).unwrap(),
+        Answer::Refused(why) => Begun {
+            written: lines::put_line(text, b'X', &[why.number() as u64]).unwrap(),
             left: Left::Nothing,
         },
         Answer::Accepted | Answer::NoRow => Begun {

@@ -10,6 +10,8 @@ use Rattle.model.specs.Framing.{Side}
 use Rattle.model.specs.Replay.{decimal, line, side_letter}
 use Rattle.model.specs.Summary.{play_summary, row_summary, answer_summary}
 use Rattle.model.proofs.ListLaws.{placed_length}
+use Rattle.calls.specs.declared.Refusal.{Refusal}
+use Rattle.calls.specs.Refusals.{refusal_number}
 use Rattle.text.proofs.FittedLaws.{Fitted, fitted_behind}
 use Rattle.text.proofs.WrittenLaws.{none_placed}
 use Rattle.lines.specs.Lines.{head, Piece}
@@ -55,9 +57,10 @@ module _ (letter : ℕ) (side : Side) (numbers : List ℕ) where
 -- ---- each answer
 
 module _ (side : Side) {entry exit : List ℕ} {bytes : ℕ} where
-  pub refused_put : (n count : ℕ) → TextPut (line 88 (map decimal (n ∷ []))) entry exit bytes → SummaryPut side (Refused n) count entry exit bytes
+  pub refused_put : (why : Refusal) (count : ℕ) → TextPut (line 88 (map decimal (refusal_number why ∷ []))) entry exit bytes
+      → SummaryPut side (Refused why) count entry exit bytes
   unfolding answer_summary
-  refused_put n count put = record { text = line 88 (map decimal (n ∷ [])); put = put; line = λ values has. refused_line_is n }
+  refused_put why count put = record { text = line 88 (map decimal (refusal_number why ∷ [])); put = put; line = λ values has. refused_line_is (refusal_number why) }
 
   pub play_put : (taken dropped short count : ℕ) → TextPut (line 80 (words 80 side (taken ∷ dropped ∷ short ∷ []))) entry exit bytes
       → SummaryPut side (Played taken dropped short) count entry exit bytes

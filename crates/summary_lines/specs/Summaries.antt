@@ -9,7 +9,7 @@ use Rattle.playback_parts.specs.Parts.{TextPut}
 
 -- so many of these values are a row's
 abbrev pub RowHas : Answer → List Float → ℕ → Type 0
-RowHas (Refused n) values count = Unit {0}
+RowHas (Refused why) values count = Unit {0}
 RowHas Accepted values count = Unit {0}
 RowHas (Played taken dropped short) values count = Unit {0}
 RowHas NoRow values count = Unit {0}

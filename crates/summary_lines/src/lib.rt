@@ -26,7 +26,7 @@ pub fn put_summary(text: &mut [u8], side: Side, answer: Answer, values: usize) -
     ensures { SummaryPut (model_side side) answer values text.old text.new result }
 {
     match answer {
-        Answer::Refused(n) => lines::put_line(text, b'X', &[n as u64]).unwrap(),
+        Answer::Refused(why) => lines::put_line(text, b'X', &[why.number() as u64]).unwrap(),
         Answer::Accepted | Answer::NoRow => 0,
         Answer::Played {
             taken,

@@ -4,7 +4,7 @@ use crate::compare::Difference;
 use crate::session::Session;
 use calls::{Side, Sizes};
 use reassembler::OpenRow;
-use receiver_state::readings::{Place, picture_place, row_place};
+use receiver_state::readings::{picture_place, row_place};
 use receiver_state::sides::channel_of;
 use udp_packets::Screen;
 
@@ -51,8 +51,8 @@ fn rows(
 
 fn picture(z: Sizes, side: Side, us: &[u32], words: &[u32]) -> Result<(), Difference> {
     match picture_place(z, side) {
-        Place::NoSizes => compare::length(0, words),
-        Place::At(at) => compare::numbers(us, at, pixels_of(z), words),
+        None => compare::length(0, words),
+        Some(at) => compare::numbers(us, at, pixels_of(z), words),
     }
 }
 
@@ -73,8 +73,8 @@ pub(crate) fn look(
         b'E' => compare::estimates(screen.display, words),
         b'P' => picture(z, side, us, words),
         _ => match row_place(z, side) {
-            Place::NoSizes => compare::length(0, words),
-            Place::At(row) => rows(letter, screen, z.bins, fs, row, words),
+            None => compare::length(0, words),
+            Some(row) => rows(letter, screen, z.bins, fs, row, words),
         },
     }
 }

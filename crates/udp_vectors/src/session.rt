@@ -4,9 +4,9 @@ use crate::compare;
 use crate::compare::Difference;
 use crate::words::word;
 use audio_metrics::AudioMetrics;
-use calls::{Estimates, Settings, Side, Sizes};
+use calls::{Estimates, Refusal, Settings, Side, Sizes};
 use channel::Channel;
-use receiver_setup::{Opening, setup};
+use receiver_setup::setup;
 use receiver_state::sides::{channel_of, with_channel};
 use receiver_state::{Answer, Receiver};
 use udp::StreamCounts;
@@ -104,7 +104,7 @@ fn called(s: Session, receiver: Receiver, answer: u32, expected: u32) -> Session
 
 fn answer_word(answer: Answer) -> u32 {
     match answer {
-        Answer::Refused(n) => n,
+        Answer::Refused(why) => why.number(),
         Answer::Accepted => ACCEPTED,
         Answer::NoRow => NO_ROW,
         Answer::Row(n) => ROW + ((n % 65536) as u32),
@@ -117,7 +117,13 @@ fn answer_word(answer: Answer) -> u32 {
 }
 
 // A setup with these estimates on one channel, and zeros on the other.
-fn set_up(side: Side, z: Sizes, e: Estimates, fs: &[f32], us: &mut [u32]) -> Opening {
+fn set_up(
+    side: Side,
+    z: Sizes,
+    e: Estimates,
+    fs: &[f32],
+    us: &mut [u32],
+) -> Result<Receiver, Refusal> {
     let zeros = estimates_of(&[]);
     let mut a = e;
     let mut b = zeros;
@@ -133,8 +139,8 @@ fn set_up(side: Side, z: Sizes, e: Estimates, fs: &[f32], us: &mut [u32]) -> Ope
 fn with_estimates(side: Side, z: Sizes, e: Estimates, fs: &[f32], us: &mut [u32]) -> Receiver {
     let zeros = estimates_of(&[]);
     match set_up(side, z, zeros, fs, us) {
-        Opening::Refused(_) => no_receiver(),
-        Opening::Ready(r) => with_channel(r, side, Channel::new(e)),
+        Err(_) => no_receiver(),
+        Ok(r) => with_channel(r, side, Channel::new(e)),
     }
 }
 
@@ -144,8 +150,13 @@ pub(crate) fn begin(s: Session, fs: &[f32], us: &mut [u32], words: &[u32]) -> Se
     let z = sizes_of(words);
     let e = estimates_of(words);
     match set_up(side, z, e, fs, us) {
-        Opening::Refused(n) => called(s, with_estimates(side, z, e, fs, us), n, word(words, 0)),
-        Opening::Ready(r) => called(s, r, ACCEPTED, word(words, 0)),
+        Err(why) => called(
+            s,
+            with_estimates(side, z, e, fs, us),
+            why.number(),
+            word(words, 0),
+        ),
+        Ok(r) => called(s, r, ACCEPTED, word(words, 0)),
     }
 }
 

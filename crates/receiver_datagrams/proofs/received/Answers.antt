@@ -13,8 +13,8 @@ returns-then-bytes-gt65535 c = let g = c.args in
     let found = header_found_law g.bytes.now c.in-Some.header (rw c.in-Some.is at c.parse_media_header.ensures) in
     rw c.refusal-then-bytes-gt65535.ensures (too_long_law g.r g.fs.now g.us.now g.bytes.now c.requires are found.0 c.if-bytes-gt65535.true)
 
-pub header_asked-verdict-requires : goal.header_asked-verdict-requires
-header_asked-verdict-requires c = let g = c.args in
+pub header_asked-requires : goal.header_asked-requires
+header_asked-requires c = let g = c.args in
     let found = header_found_law g.bytes.now c.in-Some.header (rw c.in-Some.is at c.parse_media_header.ensures) in
     found.0
 
@@ -22,13 +22,13 @@ pub dispatched-requires : goal.dispatched-requires
 dispatched-requires c = let g = c.args in
     let found = header_found_law g.bytes.now c.in-Some.header (rw c.in-Some.is at c.parse_media_header.ensures) in
     let stream = stream_found g.bytes.now c.in-Some.header c.stream_of-stream.result found.1 c.stream_of-stream.ensures in
-    let told = headers_told _ _ _ g.bytes.now (rw c.in-Yes.is at c.header_asked-verdict.ensures) in
+    let told = headers_told _ _ _ g.bytes.now (rw c.in-Ok.is at c.header_asked.ensures) in
     (record { ready = c.requires; length_asked = length_asked g.bytes.now found.0 c.if-bytes-gt65535.false; fields = found.1; header_asked = rw found.1 at told.0; stream_asked = rw stream told.1 }, stream)
 
-pub returns-in-No : goal.returns-in-No
-returns-in-No c = let g = c.args in
+pub returns-in-Err : goal.returns-in-Err
+returns-in-Err c = let g = c.args in
     let are = bytes_are g.bytes.now c.shared_slice_known-1.given in
     let found = header_found_law g.bytes.now c.in-Some.header (rw c.in-Some.is at c.parse_media_header.ensures) in
     let stream = stream_found g.bytes.now c.in-Some.header c.stream_of-stream.result found.1 c.stream_of-stream.ensures in
-    let refuses = rw c.in-No.is at c.header_asked-verdict.ensures in
-    rw c.refusal-in-No.ensures (header_refused g.r g.fs.now g.us.now g.bytes.now c.requires are _ _ _ (length_asked g.bytes.now found.0 c.if-bytes-gt65535.false) found.1 stream refuses)
+    let refuses = rw c.in-Err.is at c.header_asked.ensures in
+    rw c.refusal-in-Err.ensures (header_refused g.r g.fs.now g.us.now g.bytes.now c.requires are _ _ _ (length_asked g.bytes.now found.0 c.if-bytes-gt65535.false) found.1 stream refuses)

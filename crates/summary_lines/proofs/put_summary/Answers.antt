@@ -7,7 +7,7 @@ use Rattle.summary_lines.proofs.Lines.{refused_put, play_put, row_put, accepted_
 use Rattle.summary_lines.proofs.put_summary.Goals as goal
 
 pub returns-in-Refused : goal.returns-in-Refused
-returns-in-Refused c = rw c.in-Refused.is (refused_put (model_side c.args.side) c.in-Refused.n c.args.values (piece_put (omega (arith, c.requires)) c.put_line.ensures c.unwrap.ensures))
+returns-in-Refused c = rw c.in-Refused.is (refused_put (model_side c.args.side) c.in-Refused.why c.args.values (piece_put (omega (arith, c.requires)) (rw c.number.ensures at c.put_line.ensures) c.unwrap.ensures))
 
 pub returns-in-Accepted : goal.returns-in-Accepted
 returns-in-Accepted c = let g = c.args in

@@ -12,7 +12,7 @@ returns-in-Audio c = rw c.in-Audio.is (record { side = refl; row = λ ok. refl }
 pub returns-in-Waterfall : goal.returns-in-Waterfall
 unfolding stream_side
 returns-in-Waterfall c =
-    rw c.in-Waterfall.is (record { side = refl; row = λ ok. rw (c.place_in.ensures, c.row_place.ensures, ok) (row_of_side (sizes_of c.args.z) c.in-Waterfall.side) })
+    rw c.in-Waterfall.is (record { side = refl; row = λ ok. rw (c.unwrap_or.ensures, c.row_place.ensures, ok) (row_of_side (sizes_of c.args.z) c.in-Waterfall.side) })
 
 pub returns-in-Other : goal.returns-in-Other
 unfolding stream_side

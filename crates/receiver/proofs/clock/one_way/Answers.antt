@@ -4,11 +4,11 @@ use Rattle.receiver_state.proofs.CallLaws.{early_refused}
 use Rattle.receiver.proofs.clock.one_way.Goals as goal
 
 pub timed-requires : goal.timed-requires
-timed-requires c = c.asked-verdict.ensures.ready c.in-Yes.is
+timed-requires c = c.asked.ensures.ready c.in-Ok.is
 
-pub returns-in-No : goal.returns-in-No
-returns-in-No c = let g = c.args in
-    rw c.refusal.ensures (early_refused g.r g.fs.now g.us.now (one_way g.receive g.send) _ tt (rw c.in-No.is at c.asked-verdict.ensures.asked))
+pub returns-in-Err : goal.returns-in-Err
+returns-in-Err c = let g = c.args in
+    rw c.refusal.ensures (early_refused g.r g.fs.now g.us.now (one_way g.receive g.send) _ tt (rw c.in-Err.is at c.asked.ensures.asked))
 
-pub returns-in-Yes : goal.returns-in-Yes
-returns-in-Yes c = c.timed.ensures
+pub returns-in-Ok : goal.returns-in-Ok
+returns-in-Ok c = c.timed.ensures

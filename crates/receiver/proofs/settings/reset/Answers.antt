@@ -5,11 +5,11 @@ use Rattle.receiver_state.proofs.CallLaws.{early_refused}
 use Rattle.receiver.proofs.settings.reset.Goals as goal
 
 pub cleared-requires : goal.cleared-requires
-cleared-requires c = c.asked-verdict.ensures.ready c.in-Yes.is
+cleared-requires c = c.asked.ensures.ready c.in-Ok.is
 
-pub returns-in-No : goal.returns-in-No
-returns-in-No c = let g = c.args in
-    rw c.refusal.ensures (early_refused g.r g.fs.now g.us.now (reset (model_side g.side)) _ tt (rw c.in-No.is at c.asked-verdict.ensures.asked))
+pub returns-in-Err : goal.returns-in-Err
+returns-in-Err c = let g = c.args in
+    rw c.refusal.ensures (early_refused g.r g.fs.now g.us.now (reset (model_side g.side)) _ tt (rw c.in-Err.is at c.asked.ensures.asked))
 
-pub returns-in-Yes : goal.returns-in-Yes
-returns-in-Yes c = c.cleared.ensures
+pub returns-in-Ok : goal.returns-in-Ok
+returns-in-Ok c = c.cleared.ensures

@@ -5,11 +5,11 @@ use Rattle.receiver_state.proofs.CallLaws.{early_refused}
 use Rattle.receiver.proofs.settings.set.Goals as goal
 
 pub adjusted-requires : goal.adjusted-requires
-adjusted-requires c = c.asked-verdict.ensures.ready c.in-Yes.is
+adjusted-requires c = c.asked.ensures.ready c.in-Ok.is
 
-pub returns-in-No : goal.returns-in-No
-returns-in-No c = let g = c.args in
-    rw c.refusal.ensures (early_refused g.r g.fs.now g.us.now (set (model_side g.side) (model_settings g.settings)) _ tt (rw c.in-No.is at c.asked-verdict.ensures.asked))
+pub returns-in-Err : goal.returns-in-Err
+returns-in-Err c = let g = c.args in
+    rw c.refusal.ensures (early_refused g.r g.fs.now g.us.now (set (model_side g.side) (model_settings g.settings)) _ tt (rw c.in-Err.is at c.asked.ensures.asked))
 
-pub returns-in-Yes : goal.returns-in-Yes
-returns-in-Yes c = c.adjusted.ensures
+pub returns-in-Ok : goal.returns-in-Ok
+returns-in-Ok c = c.adjusted.ensures

@@ -2,7 +2,7 @@
 use Rattle.receiver_words.proofs.state.answer_words.Goals as goal
 
 pub returns-in-Refused : goal.returns-in-Refused
-returns-in-Refused c = rw c.in-Refused.is
+returns-in-Refused c = rw (c.in-Refused.is, c.number.ensures)
 
 pub returns-in-Played : goal.returns-in-Played
 returns-in-Played c = rw c.in-Played.is

@@ -2,8 +2,8 @@
 use mathlib.Core.Path.{refl}
 use Rattle.receiver_words.proofs.state.leave_setup.Goals as goal
 
-pub returns-in-Refused : goal.returns-in-Refused
-returns-in-Refused c = rw c.in-Refused.is (refl, c.put.ensures)
+pub returns-in-Err : goal.returns-in-Err
+returns-in-Err c = rw c.in-Err.is (refl, rw c.number.ensures at c.put.ensures)
 
-pub returns-in-Ready : goal.returns-in-Ready
-returns-in-Ready c = rw c.in-Ready.is (c.write_receiver.ensures, c.put-in-Ready.ensures)
+pub returns-in-Ok : goal.returns-in-Ok
+returns-in-Ok c = rw c.in-Ok.is (c.write_receiver.ensures, c.put-in-Ok.ensures)

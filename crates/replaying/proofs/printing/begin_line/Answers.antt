@@ -5,7 +5,7 @@ use Rattle.replaying.proofs.Begun.{refused_begun, played_begun, row_begun, accep
 use Rattle.replaying.proofs.printing.begin_line.Goals as goal
 
 pub returns-in-Refused : goal.returns-in-Refused
-returns-in-Refused c = rw c.in-Refused.is (refused_begun (model_side c.args.side) c.requires c.unwrap.ensures c.in-Refused.n c.put_line.ensures)
+returns-in-Refused c = rw c.in-Refused.is (refused_begun (model_side c.args.side) c.requires c.unwrap.ensures c.in-Refused.why (rw c.number.ensures at c.put_line.ensures))
 
 pub returns-in-Accepted : goal.returns-in-Accepted
 returns-in-Accepted c = let g = c.args in
