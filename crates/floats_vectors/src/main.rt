@@ -17,7 +17,9 @@ fn write(text: &[u8]) {
 }
 
 // The rest of a vector's line, and the tally with it.
-fn finish(t: Tally, found: u64, expected: u64) -> Tally {
+fn finish<N: Into<u64>>(t: Tally, found: N, expected: N) -> Tally {
+    let found: u64 = found.into();
+    let expected: u64 = expected.into();
     let seen = t.seen.wrapping_add(1);
     io::print_hex(STDOUT_FILENO, found, 8);
     if found == expected {
@@ -45,70 +47,66 @@ fn start_pattern(what: &[u8], of: u32) {
     write(b": ");
 }
 
+// A vector with a name.
+fn vector<N: Into<u64>>(t: Tally, what: &[u8], name: &[u8], found: N, expected: N) -> Tally {
+    start(what, name);
+    finish(t, found, expected)
+}
+
 fn nearest(t: Tally, name: &[u8], n: i64, expected: u32) -> Tally {
-    start(b"nearest ", name);
-    let found = floats::nearest_i64_to_f32(n);
-    finish(t, floats::to_bits(found) as u64, expected as u64)
+    let found = floats::to_bits(floats::nearest_i64_to_f32(n));
+    vector(t, b"nearest ", name, found, expected)
 }
 
 fn pattern(t: Tally, b: u32, expected: u32) -> Tally {
     start_pattern(b"pattern ", b);
     let found = floats::from_bits(b);
-    finish(t, floats::to_bits(found) as u64, expected as u64)
+    finish(t, floats::to_bits(found), expected)
 }
 
 fn round(t: Tally, name: &[u8], x: u32, expected: u32) -> Tally {
-    start(b"round ", name);
-    let found = floats::round(floats::from_bits(x));
-    finish(t, floats::to_bits(found) as u64, expected as u64)
+    let found = floats::to_bits(floats::round(floats::from_bits(x)));
+    vector(t, b"round ", name, found, expected)
 }
 
 fn to_u8(t: Tally, name: &[u8], x: u32, expected: u8) -> Tally {
-    start(b"u8 ", name);
     let found = floats::as_u8(floats::from_bits(x));
-    finish(t, found as u64, expected as u64)
+    vector(t, b"u8 ", name, found, expected)
 }
 
 fn rounded_to_u8(t: Tally, name: &[u8], x: u32, expected: u8) -> Tally {
-    start(b"rounded to u8 ", name);
     let found = floats::round_to_u8(floats::from_bits(x));
-    finish(t, found as u64, expected as u64)
+    vector(t, b"rounded to u8 ", name, found, expected)
 }
 
 fn to_u32(t: Tally, name: &[u8], x: u32, expected: u32) -> Tally {
-    start(b"u32 ", name);
     let found = floats::as_u32(floats::from_bits(x));
-    finish(t, found as u64, expected as u64)
+    vector(t, b"u32 ", name, found, expected)
 }
 
 fn to_usize(t: Tally, name: &[u8], x: u32, expected: u64) -> Tally {
-    start(b"usize ", name);
-    let found = floats::as_usize(floats::from_bits(x));
-    finish(t, found as u64, expected)
+    let found = floats::as_usize(floats::from_bits(x)) as u64;
+    vector(t, b"usize ", name, found, expected)
 }
 
 fn sample(t: Tally, name: &[u8], lo: u8, hi: u8, expected: u32) -> Tally {
-    start(b"sample ", name);
-    let found = floats::sample(lo, hi);
-    finish(t, floats::to_bits(found) as u64, expected as u64)
+    let found = floats::to_bits(floats::sample(lo, hi));
+    vector(t, b"sample ", name, found, expected)
 }
 
 fn larger(t: Tally, name: &[u8], a: u32, b: u32, expected: u32) -> Tally {
-    start(b"max ", name);
     let found = floats::max(floats::from_bits(a), floats::from_bits(b));
-    finish(t, floats::to_bits(found) as u64, expected as u64)
+    vector(t, b"max ", name, floats::to_bits(found), expected)
 }
 
 fn clamped(t: Tally, name: &[u8], x: u32, expected: u32) -> Tally {
-    start(b"clamp to 0..1 ", name);
     let found = floats::clamp(floats::from_bits(x), 0.0, 1.0);
-    finish(t, floats::to_bits(found) as u64, expected as u64)
+    vector(t, b"clamp to 0..1 ", name, floats::to_bits(found), expected)
 }
 
 fn finite(t: Tally, b: u32, expected: bool) -> Tally {
     start_pattern(b"finite ", b);
-    let found = floats::is_finite(floats::from_bits(b));
-    finish(t, found as u64, expected as u64)
+    finish(t, floats::is_finite(floats::from_bits(b)), expected)
 }
 
 // A whole number as the nearest float: `n as f32`.

@@ -3,7 +3,7 @@
 
 use calls::Side;
 use std::io::IsTerminal;
-use tape::{Call, Placed};
+use tape::Call;
 
 // A file descriptor.
 const STDERR_FILENO: i32 = 2;
@@ -11,89 +11,69 @@ const STDERR_FILENO: i32 = 2;
 // Samples in a minute of sound.
 const MINUTE: u64 = 2880000;
 
-// More samples are not counted.
-const MOST: u64 = 0x7fff_ffff_ffff_ffff;
-
-// No percentage.
-const NONE: usize = 101;
-
+// What is told.
 #[derive(Clone, Copy)]
-pub struct Progress {
-    pub shown: bool,
+pub struct Shown {
     // Whether the output goes to a terminal too.
-    pub lines: bool,
+    lines: bool,
     // The percentage that was told last.
-    pub percent: usize,
+    percent: Option<usize>,
     // The samples that were played.
-    pub a: u64,
-    pub b: u64,
+    a: u64,
+    b: u64,
 }
+
+// How far a replay is; None where it is not told.
+pub type Progress = Option<Shown>;
 
 // With the output, and where it is told how far a replay is.
 pub fn begin<O: IsTerminal, E: IsTerminal>(output: &O, errors: &E) -> Progress {
-    Progress {
-        shown: errors.is_terminal(),
+    if !errors.is_terminal() {
+        return None;
+    }
+    Some(Shown {
         lines: output.is_terminal(),
-        percent: NONE,
+        percent: None,
         a: 0,
         b: 0,
-    }
+    })
 }
 
-fn sum(count: u64, samples: u32) -> u64 {
-    if MOST < count {
-        return count;
-    }
-    count + samples as u64
-}
-
-// With the call at a place of a window.
-fn heard(p: Progress, window: &[u8], place: usize) -> Progress {
-    let Ok(
-        Some(
-            Placed {
-                call: Call::Play { side, samples },
-                next: _,
-            },
-        ),
-    ) = tape::reader::call_at(window, place)
-    else {
-        return p;
-    };
-    let shown = p.shown;
-    let lines = p.lines;
-    let percent = p.percent;
-    match side {
-        Side::A => Progress {
-            shown,
-            lines,
-            percent,
-            a: sum(p.a, samples),
-            b: p.b,
+// With a call.
+fn heard(p: Shown, call: Call) -> Shown {
+    match call {
+        Call::Play {
+            side: Side::A,
+            samples,
+        } => Shown {
+            a: p.a.saturating_add(u64::from(samples)),
+            ..p
         },
-        Side::B => Progress {
-            shown,
-            lines,
-            percent,
-            a: p.a,
-            b: sum(p.b, samples),
+        Call::Play {
+            side: Side::B,
+            samples,
+        } => Shown {
+            b: p.b.saturating_add(u64::from(samples)),
+            ..p
         },
+        _ => p,
     }
 }
 
 // With the calls of a window from one place up to another.
-fn heard_all(p: Progress, window: &[u8], from: usize, to: usize) -> Progress {
+fn heard_all(p: Shown, window: &[u8], from: usize, to: usize) -> Shown {
     let mut heard_so_far = p;
     let mut at = from;
     while at < to {
-        heard_so_far = heard(heard_so_far, window, at);
-        let Ok(Some(next)) = tape::reader::step_at(window, at) else {
+        let Ok(Some(placed)) = tape::reader::call_at(window, at) else {
             return heard_so_far;
         };
-        if next <= at {
+        heard_so_far = heard(heard_so_far, placed.call);
+        // Never so, as a call takes a word at least: a test in place of the tape's laws keeps this loop's end plain.
+        if placed.next <= at {
             return heard_so_far;
         }
-        at = next;
+        at = placed.next;
     }
     heard_so_far
 }
@@ -103,31 +83,23 @@ fn percent_of(done: usize, all: usize) -> usize {
     if part == 0 {
         return 100;
     }
-    let percent = done / part;
-    if 100 < percent {
-        return 100;
-    }
-    percent
+    (done / part).min(100)
 }
 
-fn minutes(p: Progress) -> u64 {
-    if p.a < p.b {
-        return p.b / MINUTE;
-    }
-    p.a / MINUTE
+fn minutes(p: Shown) -> u64 {
+    p.a.max(p.b) / MINUTE
 }
 
 // Where the output goes to the terminal too, each is a line of its own; else it stands over the last.
-fn tell(p: Progress) {
-    let lines = p.lines;
-    if !lines {
+fn tell(p: Shown, percent: usize) {
+    if !p.lines {
         io::write_all(STDERR_FILENO, b"\r");
     }
-    io::print_decimal(STDERR_FILENO, p.percent as u64);
+    io::print_decimal(STDERR_FILENO, percent as u64);
     io::write_all(STDERR_FILENO, b" % of the file, ");
     io::print_decimal(STDERR_FILENO, minutes(p));
     io::write_all(STDERR_FILENO, b" minutes of sound");
-    if lines {
+    if p.lines {
         io::write_all(STDERR_FILENO, b"\n");
     }
 }
@@ -141,32 +113,23 @@ pub fn further(
     done: usize,
     all: usize,
 ) -> Progress {
-    if !p.shown {
-        return p;
-    }
-    let sofar = heard_all(p, window, from, to);
+    let sofar = heard_all(p?, window, from, to);
     let percent = percent_of(done, all);
-    if percent == sofar.percent {
-        return sofar;
+    if sofar.percent == Some(percent) {
+        return Some(sofar);
     }
-    let now = Progress {
-        shown: true,
-        lines: sofar.lines,
-        percent,
-        a: sofar.a,
-        b: sofar.b,
-    };
-    tell(now);
-    now
+    tell(sofar, percent);
+    Some(Shown {
+        percent: Some(percent),
+        ..sofar
+    })
 }
 
 // The line's end.
 pub fn end(p: Progress) {
-    if !p.shown {
-        return;
+    if let Some(shown) = p {
+        if !shown.lines {
+            io::write_all(STDERR_FILENO, b"\n");
+        }
     }
-    if p.lines {
-        return;
-    }
-    io::write_all(STDERR_FILENO, b"\n");
 }

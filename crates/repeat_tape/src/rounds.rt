@@ -1,71 +1,53 @@
 // Rounds of the calls of a tape.
-ghost use Rattle.std.specs.Prelude.{◌≡◌, ◌+◌, ◌<◌, ◌≤◌, length};
-
 use receiver_state::Receiver;
 use replaying::acting::{Acted, act};
-use std::num::{wrapping_add_u32, wrapping_add_u64};
 use tape::reader::{call_at, step_at};
 
-// Where a round stands: the receiver, the next call's place, the audio datagrams so far, and how many calls may still come.
+// The place of a tape's first call.
+const FIRST_PLACE: usize = 13;
+
+// Where a round stands: the receiver, the next call's place, and the audio datagrams so far.
 #[derive(Clone, Copy)]
 struct Standing {
     receiver: Receiver,
     place: usize,
     sequence: u32,
-    left: usize,
 }
 
 // The bit patterns, added up.
 pub fn sum_of(samples: &[f32]) -> u64 {
     let mut sum = 0u64;
-    let mut i = 0;
-    while i < samples.len() {
-        sum = wrapping_add_u64(sum, floats::to_bits(samples[i]) as u64);
-        i += 1;
+    for sample in samples {
+        sum = sum.wrapping_add(u64::from(floats::to_bits(*sample)));
     }
     sum
 }
 
-// Writes a number to two bytes, the most significant first.
-fn put_u16(bytes: &mut [u8], at: usize, n: u32)
-    requires { at + 2 ≤ length bytes.old }
-{
-    bytes[at] = (n / 256 % 256) as u8;
-    bytes[at + 1] = (n % 256) as u8;
-}
-
 // Numbers the datagram behind the word that `bytes` begins with, if it is one of 18 bytes or more: an audio packet's
 // sequence, or a row's number. The answer is the next sequence.
-fn number(bytes: &mut [u8], sequence: u32, row: u32) -> u32 {
-    if bytes.len() < 22 {
+fn number(bytes: &mut [u8], sequence: u32, row: u16) -> u32 {
+    if bytes.len() < 22 || bytes[0] != 32 || (bytes[2] == 0 && bytes[3] < 18) {
         return sequence;
     }
-    if bytes[0] != 32 {
-        return sequence;
-    }
-    if bytes[2] == 0 {
-        if bytes[3] < 18 {
-            return sequence;
+    match bytes[7] {
+        1 => {
+            bytes[8..12].copy_from_slice(&sequence.to_be_bytes());
+            sequence.wrapping_add(1)
         }
+        2 => {
+            bytes[20..22].copy_from_slice(&row.to_be_bytes());
+            sequence
+        }
+        _ => sequence,
     }
-    if bytes[7] == 1 {
-        put_u16(bytes, 8, sequence / 65536);
-        put_u16(bytes, 10, sequence % 65536);
-        return wrapping_add_u32(sequence, 1);
-    }
-    if bytes[7] == 2 {
-        put_u16(bytes, 20, row);
-    }
-    sequence
 }
 
 // The same at a place of a tape.
-fn number_at(tape: &mut [u8], place: usize, sequence: u32, row: u32) -> u32 {
+fn number_at(tape: &mut [u8], place: usize, sequence: u32, row: u16) -> u32 {
     if tape.len() / 4 <= place {
         return sequence;
     }
-    let at = 4 * place;
-    number(&mut tape[at..], sequence, row)
+    number(&mut tape[4 * place..], sequence, row)
 }
 
 fn made(
@@ -76,100 +58,49 @@ fn made(
     us: &mut [u32],
     samples: &mut [f32],
 ) -> Acted {
-    let found = call_at(tape, place);
-    act(r, fs, us, tape, found, samples)
+    act(r, fs, us, tape, call_at(tape, place), samples)
 }
 
-// Numbers the next call.
-fn numbered(t: Standing, tape: &mut [u8], row: u32) -> Standing
-    ensures { result.left ≡ t.left }
-{
-    let receiver = t.receiver;
-    let place = t.place;
-    let sequence = number_at(tape, place, t.sequence, row);
-    Standing {
-        receiver,
-        place,
-        sequence,
-        left: t.left,
-    }
-}
-
-// No call comes after it.
-fn ended(t: Standing) -> Standing
-    ensures { result.left ≡ 0 }
-{
-    let receiver = t.receiver;
-    Standing {
-        receiver,
-        place: t.place,
-        sequence: t.sequence,
-        left: 0,
-    }
-}
-
-// Makes the next call.
-fn one(t: Standing, tape: &[u8], fs: &mut [f32], us: &mut [u32], samples: &mut [f32]) -> Standing
-    requires { 0 < t.left }
-    ensures { result.left < t.left }
-{
-    let place = t.place;
-    let Ok(Some(next)) = step_at(tape, place) else {
-        return ended(t);
-    };
-    let r = t.receiver;
-    let acted = made(r, tape, place, fs, us, samples);
-    let Acted::Made(v) = acted else {
-        return ended(t);
-    };
-    let receiver = v.receiver;
-    Standing {
-        receiver,
-        place: next,
-        sequence: t.sequence,
-        left: t.left - 1,
-    }
-}
-
+// Makes the next call, numbered. None where no call comes after it.
 fn turn(
     t: Standing,
     tape: &mut [u8],
-    row: u32,
+    row: u16,
     fs: &mut [f32],
     us: &mut [u32],
     samples: &mut [f32],
-) -> Standing
-    requires { 0 < t.left }
-    ensures { result.left < t.left }
-{
-    let n = numbered(t, tape, row);
-    one(n, tape, fs, us, samples)
+) -> Option<Standing> {
+    let sequence = number_at(tape, t.place, t.sequence, row);
+    let Ok(Some(place)) = step_at(tape, t.place) else {
+        return None;
+    };
+    let Acted::Made(v) = made(t.receiver, tape, t.place, fs, us, samples) else {
+        return None;
+    };
+    Some(Standing {
+        receiver: v.receiver,
+        place,
+        sequence,
+    })
 }
 
 // All calls of the tape once. There are no more of them than bytes.
 fn round(
     begun: Standing,
     tape: &mut [u8],
-    row: u32,
+    row: u16,
     fs: &mut [f32],
     us: &mut [u32],
     samples: &mut [f32],
 ) -> Standing {
     let mut t = begun;
-    while 0 < t.left {
-        t = turn(t, tape, row, fs, us, samples);
+    for _ in 0..tape.len() {
+        let Some(next) = turn(t, tape, row, fs, us, samples) else {
+            return t;
+        };
+        t = next;
     }
     t
-}
-
-fn at_first(t: Standing, tape: &[u8]) -> Standing {
-    let receiver = t.receiver;
-    Standing {
-        receiver,
-        place: 13,
-        sequence: t.sequence,
-        left: tape.len(),
-    }
 }
 
 // So many rounds, each from the first call on.
@@ -183,14 +114,15 @@ pub fn all(
 ) -> Receiver {
     let mut t = Standing {
         receiver,
-        place: 13,
+        place: FIRST_PLACE,
         sequence: 0,
-        left: 0,
     };
-    let mut i = 0;
-    while i < count {
-        t = round(at_first(t, tape), tape, i % 65536, fs, us, samples);
-        i += 1;
+    for i in 0..count {
+        let first = Standing {
+            place: FIRST_PLACE,
+            ..t
+        };
+        t = round(first, tape, (i % 65536) as u16, fs, us, samples);
     }
     t.receiver
 }

@@ -6,7 +6,7 @@
 mod compare;
 mod records;
 
-use crate::records::{Read, Tally};
+use crate::records::{ListError, Tally};
 
 // A file descriptor.
 const STDOUT_FILENO: i32 = 1;
@@ -17,15 +17,14 @@ fn say(text: &[u8]) {
 
 // What was found.
 fn sum_up(t: Tally) {
-    let last = t.last;
     io::print_decimal(STDOUT_FILENO, t.tapes);
     say(b" tapes replayed, ");
     io::print_decimal(STDOUT_FILENO, t.differ);
     say(b" differ\n");
-    match last {
-        Read::End => {}
-        Read::Record => say(b"the list is too long\n"),
-        Read::Part => say(b"the input ends in a part of a record\n"),
+    match t.read {
+        Ok(()) => {}
+        Err(ListError::TooLong) => say(b"the list is too long\n"),
+        Err(ListError::Part) => say(b"the input ends in a part of a record\n"),
     }
 }
 
@@ -33,14 +32,12 @@ fn sum_up(t: Tally) {
 // before has left there.
 fn replay_list(expected: &mut [u8; 600000]) -> Tally {
     let nan: f32 = 0.0 / 0.0;
-    let mut head = [0u8; 8];
     let mut tape = [0u8; 65540];
     let mut fs = [nan; 16384];
     let mut us = [7u32; 16384];
     let mut samples = [nan; 65535];
     let mut text = io::buffer();
     records::replay_all(
-        &mut head,
         &mut tape,
         expected,
         &mut fs,

@@ -1,8 +1,7 @@
 // The tapes and their outputs, read one after the other.
-ghost use Rattle.std.specs.Prelude.{◌+◌, ◌^◌, ◌<◌, ◌≤◌, length};
+ghost use Rattle.std.specs.Prelude.{◌+◌, ◌≤◌, length};
 
 use crate::compare::prints;
-use std::num::wrapping_add_u64;
 
 // File descriptors.
 const STDIN_FILENO: i32 = 0;
@@ -12,49 +11,40 @@ const STDOUT_FILENO: i32 = 1;
 // No list has more tapes.
 const MOST: usize = 1000000;
 
-// How many tapes were replayed, how many differ, and what was read last.
+// Why a list was not read to its end.
 #[derive(Clone, Copy)]
-pub struct Tally {
-    pub tapes: u64,
-    pub differ: u64,
-    pub last: Read,
-}
-
-#[derive(Clone, Copy)]
-pub enum Read {
-    // A tape and its output.
-    Record,
-    // The input's end.
-    End,
+pub enum ListError {
+    // The list has more tapes than any.
+    TooLong,
     // A part of a record, or one that is longer than any of the list.
     Part,
 }
 
-fn wide(byte: u8) -> usize
-    ensures { result < 256 }
-{
-    byte as usize
+// How many tapes were replayed, how many differ, and whether the list was read to its end.
+#[derive(Clone, Copy)]
+pub struct Tally {
+    pub tapes: u64,
+    pub differ: u64,
+    pub read: Result<(), ListError>,
 }
 
 // The number in four bytes.
-fn number_at(bytes: &[u8], at: usize) -> usize
+fn number_at(bytes: &[u8], at: usize) -> u32
     requires { at + 4 ≤ length bytes.now }
-    ensures { result < 2 ^ 32 }
 {
-    let a = wide(bytes[at]);
-    let b = wide(bytes[at + 1]);
-    let c = wide(bytes[at + 2]);
-    let d = wide(bytes[at + 3]);
-    ((a * 256 + b) * 256 + c) * 256 + d
+    u32::from_be_bytes([bytes[at], bytes[at + 1], bytes[at + 2], bytes[at + 3]])
 }
 
-// Whether so many bytes of the input came, at the front.
-fn read_front(bytes: &mut [u8], n: usize) -> bool {
+// So many bytes of the input, which come to the front of the bytes.
+fn read_front(bytes: &mut [u8], n: usize) -> Result<&[u8], ListError> {
     if bytes.len() < n {
-        return false;
+        return Err(ListError::Part);
     }
-    let got = io::read_full(STDIN_FILENO, &mut bytes[..n]);
-    got == n
+    let front = &mut bytes[..n];
+    if io::read_full(STDIN_FILENO, front) < n {
+        return Err(ListError::Part);
+    }
+    Ok(front)
 }
 
 fn tell(number: u64) {
@@ -65,96 +55,39 @@ fn tell(number: u64) {
 
 // One tape more.
 fn counted(t: Tally, same: bool) -> Tally {
-    let tapes = wrapping_add_u64(t.tapes, 1);
+    let tapes = t.tapes.wrapping_add(1);
     if same {
-        return Tally {
-            tapes,
-            differ: t.differ,
-            last: Read::Record,
-        };
+        return Tally { tapes, ..t };
     }
     tell(tapes);
     Tally {
         tapes,
-        differ: wrapping_add_u64(t.differ, 1),
-        last: Read::Record,
+        differ: t.differ.wrapping_add(1),
+        ..t
     }
 }
 
-fn with_last(t: Tally, last: Read) -> Tally {
-    Tally {
-        tapes: t.tapes,
-        differ: t.differ,
-        last,
-    }
-}
-
-// Whether the tape at the front of its bytes prints the output at the front of its own.
-fn front_prints(
-    tape: &[u8],
-    n: usize,
-    expected: &[u8],
-    m: usize,
-    fs: &mut [f32],
-    us: &mut [u32],
-    samples: &mut [f32],
-    text: &mut [u8],
-) -> bool {
-    if tape.len() < n {
-        return false;
-    }
-    if expected.len() < m {
-        return false;
-    }
-    prints(&tape[..n], &expected[..m], fs, us, samples, text)
-}
-
-// One record of the input.
+// Whether the next tape of the input prints its output. None at the input's end.
 fn replay_one(
-    t: Tally,
-    head: &mut [u8],
     tape: &mut [u8],
     expected: &mut [u8],
     fs: &mut [f32],
     us: &mut [u32],
     samples: &mut [f32],
     text: &mut [u8],
-) -> Tally {
-    let got = io::read_full(STDIN_FILENO, head);
-    if got == 0 {
-        return with_last(t, Read::End);
+) -> Result<Option<bool>, ListError> {
+    let mut head = [0u8; 8];
+    match io::read_full(STDIN_FILENO, &mut head) {
+        0 => return Ok(None),
+        1..=7 => return Err(ListError::Part),
+        _ => {}
     }
-    if got < 8 {
-        return with_last(t, Read::Part);
-    }
-    if head.len() < 8 {
-        return with_last(t, Read::Part);
-    }
-    let n = number_at(head, 0);
-    let m = number_at(head, 4);
-    if !read_front(tape, n) {
-        return with_last(t, Read::Part);
-    }
-    if !read_front(expected, m) {
-        return with_last(t, Read::Part);
-    }
-    counted(t, front_prints(tape, n, expected, m, fs, us, samples, text))
-}
-
-// The list goes on behind a record.
-fn left_after(last: Read, left: usize) -> usize
-    requires { 0 < left }
-    ensures { result < left }
-{
-    match last {
-        Read::Record => left - 1,
-        Read::End => 0,
-        Read::Part => 0,
-    }
+    let tape = read_front(tape, number_at(&head, 0) as usize)?;
+    let expected = read_front(expected, number_at(&head, 4) as usize)?;
+    Ok(Some(prints(tape, expected, fs, us, samples, text)))
 }
 
 pub fn replay_all(
-    head: &mut [u8],
     tape: &mut [u8],
     expected: &mut [u8],
     fs: &mut [f32],
@@ -165,13 +98,17 @@ pub fn replay_all(
     let mut t = Tally {
         tapes: 0,
         differ: 0,
-        last: Read::Record,
+        read: Ok(()),
     };
-    let mut left = MOST;
-    while 0 < left {
-        t = replay_one(t, head, tape, expected, fs, us, samples, text);
-        let last = t.last;
-        left = left_after(last, left);
+    for _ in 0..MOST {
+        match replay_one(tape, expected, fs, us, samples, text) {
+            Ok(Some(same)) => t = counted(t, same),
+            Ok(None) => return t,
+            Err(e) => return Tally { read: Err(e), ..t },
+        }
     }
-    t
+    Tally {
+        read: Err(ListError::TooLong),
+        ..t
+    }
 }

@@ -1,24 +1,9 @@
 // What was written, read back field by field.
 use crate::report::{Tally, counted, numbers, text};
-use crate::sample::{every_call, settings, small};
-use calls::{DepthCounts, Settings, Side};
+use crate::sample::{depth_counts, estimates, every_call, settings, small, small_sizes};
+use calls::Side;
 use tape::{BadWord, Call, Found, Placed, Setup, reader};
 use tape_writer::PutError;
-
-fn is_b(side: Side) -> bool {
-    match side {
-        Side::A => false,
-        Side::B => true,
-    }
-}
-
-fn same_settings(a: Settings, b: Settings) -> bool {
-    a.adaptive == b.adaptive
-        && a.top == b.top
-        && a.range == b.range
-        && a.zoom == b.zoom
-        && a.smoothing == b.smoothing
-}
 
 fn byte(t: &[u8], at: usize) -> u8 {
     if at < t.len() {
@@ -41,7 +26,7 @@ fn is_datagram(t: &[u8], f: Found) -> bool {
     }
 }
 
-fn is_play(f: Found, b: bool, n: u32, after: usize) -> bool {
+fn is_play(f: Found, expected: Side, n: u32, after: usize) -> bool {
     match f {
         Ok(
             Some(
@@ -50,12 +35,12 @@ fn is_play(f: Found, b: bool, n: u32, after: usize) -> bool {
                     next,
                 },
             ),
-        ) => is_b(side) == b && samples == n && next == after,
+        ) => side == expected && samples == n && next == after,
         _ => false,
     }
 }
 
-fn is_reset(f: Found, b: bool, after: usize) -> bool {
+fn is_reset(f: Found, expected: Side, after: usize) -> bool {
     match f {
         Ok(
             Some(
@@ -64,12 +49,12 @@ fn is_reset(f: Found, b: bool, after: usize) -> bool {
                     next,
                 },
             ),
-        ) => is_b(side) == b && next == after,
+        ) => side == expected && next == after,
         _ => false,
     }
 }
 
-fn is_set(f: Found, b: bool, after: usize) -> bool {
+fn is_set(f: Found, expected: Side, after: usize) -> bool {
     match f {
         Ok(
             Some(
@@ -78,7 +63,7 @@ fn is_set(f: Found, b: bool, after: usize) -> bool {
                     next,
                 },
             ),
-        ) => is_b(side) == b && same_settings(x, settings(b)) && next == after,
+        ) => side == expected && x == settings(expected == Side::B) && next == after,
         _ => false,
     }
 }
@@ -111,13 +96,6 @@ fn is_one_way(f: Found) -> bool {
     }
 }
 
-fn same_counts(k: DepthCounts) -> bool {
-    k.conceals == 1
-        && k.late == 4294967296
-        && k.overflow == 18446744073709551615
-        && k.resyncs == 4294967297
-}
-
 fn is_depth(f: Found) -> bool {
     match f {
         Ok(
@@ -127,7 +105,7 @@ fn is_depth(f: Found) -> bool {
                     next,
                 },
             ),
-        ) => samples == 4294967295 && same_counts(counts) && next == 54,
+        ) => samples == 4294967295 && counts == depth_counts() && next == 54,
         _ => false,
     }
 }
@@ -155,7 +133,7 @@ fn is_end(f: Found) -> bool {
 
 fn is_bad(f: Found, place: usize) -> bool {
     match f {
-        Err(bad) => bad.place == place,
+        Err(bad) => bad == BadWord { place },
         _ => false,
     }
 }
@@ -163,13 +141,9 @@ fn is_bad(f: Found, place: usize) -> bool {
 fn is_setup(s: Result<Setup, BadWord>) -> bool {
     match s {
         Ok(x) => {
-            x.sizes.packet == 2
-                && x.sizes.max == 4
-                && x.sizes.height == 1
-                && x.a.top == 1
-                && x.a.range == 3
-                && x.b.top == 4
-                && x.b.range == 4294967295
+            x.sizes == small_sizes()
+                && x.a == estimates(1, 2, 3)
+                && x.b == estimates(4, 5, 4294967295)
         }
         Err(_) => false,
     }
@@ -186,17 +160,25 @@ fn channel_calls(t: &[u8], tally: Tally) -> Tally {
     let now = said(
         now,
         b"play A",
-        is_play(reader::call_at(t, 16), false, 2, 17),
+        is_play(reader::call_at(t, 16), Side::A, 2, 17),
     );
     let now = said(
         now,
         b"play B",
-        is_play(reader::call_at(t, 17), true, 65535, 18),
+        is_play(reader::call_at(t, 17), Side::B, 65535, 18),
     );
-    let now = said(now, b"reset A", is_reset(reader::call_at(t, 18), false, 19));
-    let now = said(now, b"reset B", is_reset(reader::call_at(t, 19), true, 20));
-    let now = said(now, b"set A", is_set(reader::call_at(t, 20), false, 25));
-    said(now, b"set B", is_set(reader::call_at(t, 25), true, 30))
+    let now = said(
+        now,
+        b"reset A",
+        is_reset(reader::call_at(t, 18), Side::A, 19),
+    );
+    let now = said(
+        now,
+        b"reset B",
+        is_reset(reader::call_at(t, 19), Side::B, 20),
+    );
+    let now = said(now, b"set A", is_set(reader::call_at(t, 20), Side::A, 25));
+    said(now, b"set B", is_set(reader::call_at(t, 25), Side::B, 30))
 }
 
 fn clock_calls(t: &[u8], tally: Tally) -> Tally {

@@ -10,14 +10,9 @@ fn set_byte(t: &mut [u8], at: usize, b: u8) {
 }
 
 fn set_word(t: &mut [u8], place: usize, word: u32) {
-    if place > 1000 {
-        return;
+    if place < t.len() / 4 {
+        t[4 * place..4 * place + 4].copy_from_slice(&word.to_be_bytes());
     }
-    let at = 4 * place;
-    set_byte(t, at, (word / 16777216) as u8);
-    set_byte(t, at + 1, (word / 65536 % 256) as u8);
-    set_byte(t, at + 2, (word / 256 % 256) as u8);
-    set_byte(t, at + 3, (word % 256) as u8);
 }
 
 // The verdict on the first n bytes.
@@ -67,7 +62,7 @@ fn with_bit(t: &mut [u8], tally: Tally, place: usize, word: u32, bit: u32) -> Ta
             t,
             tally,
             place,
-            std::num::wrapping_add_u32(word, 1u32 << bit),
+            word.wrapping_add(1u32 << bit),
             228,
             bad(place),
         );

@@ -9,51 +9,66 @@ mod sample;
 use crate::damage::{behind_end, each_bit, each_cut, with_byte, with_word};
 use crate::report::{Tally, bad, number, text};
 
-// Every bit that has no name in the first word of the setup, of a datagram, a play and a reset.
+// Every bit that has no name in the first word of the setup, of a datagram, a play, a reset, a set, a probe, a one-way and
+// the end.
 fn unknown_bits(t: &mut [u8], tally: Tally) -> Tally {
-    let now = each_bit(t, tally, 0, 3758096384, 0, 29);
-    let now = each_bit(t, now, 13, 536870917, 16, 29);
-    let now = each_bit(t, now, 16, 1073741826, 16, 28);
-    each_bit(t, now, 18, 1610612736, 0, 28)
+    let words = [
+        (0, 3758096384, 0, 29),
+        (13, 536870917, 16, 29),
+        (16, 1073741826, 16, 28),
+        (18, 1610612736, 0, 28),
+        (20, 2147483648, 1, 28),
+        (30, 2684354560, 0, 29),
+        (39, 3221225472, 2, 29),
+        (56, 0, 0, 29),
+    ];
+    let mut now = tally;
+    for (place, word, from, to) in words {
+        now = each_bit(t, now, place, word, from, to);
+    }
+    now
 }
 
-// The same for a set, a probe, a one-way and the end.
-fn more_unknown_bits(t: &mut [u8], tally: Tally) -> Tally {
-    let now = each_bit(t, tally, 20, 2147483648, 1, 28);
-    let now = each_bit(t, now, 30, 2684354560, 0, 29);
-    let now = each_bit(t, now, 39, 3221225472, 2, 29);
-    each_bit(t, now, 56, 0, 0, 29)
+// Other words, each with its place, and where the first bad word stands then.
+fn each_bad_word(t: &mut [u8], tally: Tally, words: &[(usize, u32, usize)]) -> Tally {
+    let mut now = tally;
+    for &(place, word, first_bad) in words {
+        now = with_word(t, now, place, word, 228, bad(first_bad));
+    }
+    now
 }
 
 // A clock word with both low bits, and each kind where the setup must stand.
 fn not_a_setup(t: &mut [u8], tally: Tally) -> Tally {
-    let now = with_word(t, tally, 39, 3221225475, 228, bad(39));
-    let now = with_word(t, now, 0, 0, 228, bad(0));
-    let now = with_word(t, now, 0, 536870912, 228, bad(0));
-    with_word(t, now, 0, 1073741824, 228, bad(0))
-}
-
-fn not_a_setup_either(t: &mut [u8], tally: Tally) -> Tally {
-    let now = with_word(t, tally, 0, 1610612736, 228, bad(0));
-    let now = with_word(t, now, 0, 2147483648, 228, bad(0));
-    let now = with_word(t, now, 0, 2684354560, 228, bad(0));
-    with_word(t, now, 0, 3221225472, 228, bad(0))
+    let words = [
+        (39, 3221225475, 39),
+        (0, 0, 0),
+        (0, 536870912, 0),
+        (0, 1073741824, 0),
+        (0, 1610612736, 0),
+        (0, 2147483648, 0),
+        (0, 2684354560, 0),
+        (0, 3221225472, 0),
+    ];
+    each_bad_word(t, tally, &words)
 }
 
 // A setup and an end among the calls.
 fn out_of_place(t: &mut [u8], tally: Tally) -> Tally {
-    let now = with_word(t, tally, 16, 3758096384, 228, bad(16));
-    let now = with_word(t, now, 13, 0, 228, bad(14));
-    let now = with_word(t, now, 16, 0, 228, bad(17));
+    let words = [(16, 3758096384, 16), (13, 0, 14), (16, 0, 17)];
+    let now = each_bad_word(t, tally, &words);
     with_word(t, now, 55, 0, 228, Ok(()))
 }
 
 // A call for the end, and lengths that do not fit what follows.
 fn run_out(t: &mut [u8], tally: Tally) -> Tally {
-    let now = with_word(t, tally, 56, 1610612736, 228, bad(57));
-    let now = with_word(t, now, 56, 2684354560, 228, bad(57));
-    let now = with_word(t, now, 54, 3221225473, 228, bad(57));
-    with_word(t, now, 13, 536936447, 228, bad(57))
+    let words = [
+        (56, 1610612736, 57),
+        (56, 2684354560, 57),
+        (54, 3221225473, 57),
+        (13, 536936447, 57),
+    ];
+    each_bad_word(t, tally, &words)
 }
 
 // Padding, and bytes of a datagram.
@@ -100,9 +115,7 @@ fn written_and_read(t: &mut [u8]) -> Tally {
 
 fn damaged_words(t: &mut [u8], tally: Tally) -> Tally {
     let now = unknown_bits(t, tally);
-    let now = more_unknown_bits(t, now);
-    let now = not_a_setup(t, now);
-    not_a_setup_either(t, now)
+    not_a_setup(t, now)
 }
 
 fn damaged_calls(t: &mut [u8], tally: Tally) -> Tally {

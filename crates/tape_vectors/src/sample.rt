@@ -2,7 +2,7 @@
 use calls::{DepthCounts, Estimates, Settings, Side, Sizes};
 use tape_writer::PutError;
 
-fn small_sizes() -> Sizes {
+pub fn small_sizes() -> Sizes {
     Sizes {
         packet: 2,
         target: 2,
@@ -13,7 +13,7 @@ fn small_sizes() -> Sizes {
     }
 }
 
-fn estimates(top: u32, floor: u32, range: u32) -> Estimates {
+pub fn estimates(top: u32, floor: u32, range: u32) -> Estimates {
     Estimates { top, floor, range }
 }
 
@@ -24,6 +24,15 @@ pub fn settings(adaptive: bool) -> Settings {
         range: 1116471296,
         zoom: 1065353216,
         smoothing: 2143289344,
+    }
+}
+
+pub fn depth_counts() -> DepthCounts {
+    DepthCounts {
+        conceals: 1,
+        late: 4294967296,
+        overflow: 18446744073709551615,
+        resyncs: 4294967297,
     }
 }
 
@@ -50,15 +59,9 @@ fn channel_calls(t: &mut [u8], place: usize) -> Result<usize, PutError> {
 
 // Places 30 to 55: a probe, a one-way, a depth, a transmit depth.
 fn clock_calls(t: &mut [u8], place: usize) -> Result<usize, PutError> {
-    let counts = DepthCounts {
-        conceals: 1,
-        late: 4294967296,
-        overflow: 18446744073709551615,
-        resyncs: 4294967297,
-    };
     let p = tape_writer::put_probe(t, place, 1, 4294967298, 18446744073709551615, 0)?;
     let p = tape_writer::put_one_way(t, p, 12884901892, 5)?;
-    let p = tape_writer::put_depth(t, p, 4294967295, counts)?;
+    let p = tape_writer::put_depth(t, p, 4294967295, depth_counts())?;
     tape_writer::put_transmit_depth(t, p, 7)
 }
 

@@ -1,6 +1,0 @@
--- `replay_vectors::compare::whole` meets its contract. Assumes nothing.
-use Rattle.std.proofs.Common.{arith, length-take}
-use Rattle.replay_vectors.proofs.compare.whole.Goals as goal
-
-pub slice_bounds-same-end : goal.slice_bounds-same-end
-slice_bounds-same-end c = simp length-take (omega arith)
