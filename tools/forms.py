@@ -168,11 +168,11 @@ for places in bodies.values():
         found["2 groups of functions that are the same but for types, numbers and names"].append(" = ".join(places))
 for fact, places in facts.items():
     if len(places) >= 3:
-        found["5 facts in three or more 'requires'"].append(f"{len(places)} × {fact}")
+        found["5 facts in three or more 'requires'"].append("\n        ".join([f"{len(places)} × {fact}", *sorted(places)]))
 longest = {r: p for r, p in rows.items() if len(p) >= 3}
 for r, p in longest.items():
     if not any(r != o and len(o) > len(r) and q == p and any(o[i:i + len(r)] == r for i in range(len(o))) for o, q in longest.items()):
-        found["5 rows of parameters in three or more functions"].append(f"{len(p)} × {', '.join(r)}")
+        found["5 rows of parameters in three or more functions"].append("\n        ".join([f"{len(p)} × {', '.join(r)}", *sorted(p)]))
 answers = lines = 0
 for name, text in files(r"crates/[^/]+/proofs/.*(Answers|Invariants|Proof)\.antt"):
     answers += 1

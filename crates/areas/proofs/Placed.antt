@@ -5,8 +5,8 @@ use Prim.Native.Nat.{ℕ, suc, ◌+◌, ◌-◌, ◌≤◌, ◌<◌}
 use native.Mathlib.Nat.{add-zero, add_assoc}
 use native.Mathlib.Numerals.{add-one}
 use native.Mathlib.Omega.{arith}
-use lib.ListN.{length, take, drop, get_or, set, replicate, length-append, length-take, length-drop, take-append-drop, get_or-append, get_or-replicate, length-replicate}
-use lib.Seq.{take-suc, take_all, take_at, take-add, take-take, take-append-le, drop-cons, drop_at, drop-drop, drop-append-add, set_at, get_or-append-add, get_or-drop, get_or-take, length-take-le, ext_get_or}
+use lib.ListN.{length, take, drop, get_or, set, length-append, length-take, length-drop, take-append-drop, get_or-append}
+use lib.Seq.{take-suc, take_at, take-add, take-take, take-append-le, drop-cons, drop_at, drop-drop, drop-append-add, set_at, get_or-append-add, get_or-drop, get_or-take, length-take-le, ext_get_or}
 use Rattle.model.specs.Bytes.{part, placed}
 use Rattle.model.proofs.ListLaws.{placed_length}
 use Rattle.areas.specs.Parts.{moved}
@@ -114,15 +114,6 @@ module _ {ℓ} {A : Type ℓ} where
       let front : length (take i ys) ≡ i = length-take-le i ys (omega arith) in
       rw (add-one i, take-suc ys i d h) (rw front at (placed_more at (take i ys) xs (get_or ys i d) (omega arith)))
 
-  -- ---- fills
-
-  pub take_replicate : (i n : ℕ) (x : A) → i ≤ n → take i (replicate n x) ≡ replicate i x
-  take_replicate i n x h =
-      let a : length (take i (replicate n x)) ≡ i = simp (length-take, length-replicate) (omega arith) in
-      ext_get_or x _ _ (a ∙ sym (length-replicate i x)) (λ k q.
-      let kq : k < i = omega arith in
-      rw (get_or-take i (replicate n x) k x kq, get_or-replicate n k x x (omega arith), get_or-replicate i k x x kq))
-
   -- ---- some writes more
 
   -- what is written first and what is written behind it are written together
@@ -162,13 +153,6 @@ module _ {ℓ} {A : Type ℓ} where
 
   -- ---- moves
 
-  -- through a list that keeps them
-  pub kept_then_placed : (d : A) (from to n : ℕ) (ys kept xs : List A) → from + n ≤ length ys → n ≤ length kept
-      → placed to (part 0 n (placed 0 (part from n ys) kept)) xs ≡ placed to (part from n ys) xs
-  kept_then_placed d from to n ys kept xs fits room =
-      let l = part_length from n ys fits in
-      rw (part_within d 0 (part from n ys) kept 0 n (omega arith) (omega arith)) (ap (λ (zs : List A). placed to zs xs) (take_all n (part from n ys) (omega arith)))
-
   pub copy_further : (from to i k : ℕ) (ys xs : List A) → from + (i + k) ≤ length ys → to + (i + k) ≤ length xs
       → placed (to + i) (part (from + i) k ys) (placed to (part from i ys) xs) ≡ placed to (part from (i + k) ys) xs
   copy_further from to i k ys xs fits room =
@@ -188,17 +172,3 @@ module _ {ℓ} {A : Type ℓ} where
       let m = part_length (from + k) n xs (omega arith) in
       rw (part_before d (to + k) (part (from + k) n xs) xs from k (omega arith) (omega arith), part_add from k n xs)
       (rw l at (placed_ahead to (part from k xs) (part (from + k) n xs) xs (omega arith)))
-
-  pub copy_step : (d : A) (from to n i : ℕ) (ys xs : List A) → from + n ≤ length ys → to + n ≤ length xs → i < n
-      → set (placed to (take i (part from n ys)) xs) (to + i) (get_or ys (from + i) d) ≡ placed to (take (i + 1) (part from n ys)) xs
-  copy_step d from to n i ys xs fits room h =
-      let l = part_length from n ys fits in
-      rw (← get_d_part d from n ys i h) (placed_up d to i (part from n ys) xs (omega arith) (omega arith))
-
-  pub fill_step : (at n i : ℕ) (x : A) (xs : List A) → at + n ≤ length xs → i < n
-      → set (placed at (replicate i x) xs) (at + i) x ≡ placed at (replicate (i + 1) x) xs
-  fill_step at n i x xs fits h =
-      let l = length-replicate n x in
-      rw (← take_replicate i n x (omega arith), ← take_replicate (i + 1) n x (omega arith))
-      (let e = get_or-replicate n i x x h in
-      rw e at (placed_up x at i (replicate n x) xs (omega arith) (omega arith)))

@@ -13,6 +13,7 @@ const FEW: usize = 4096;
 
 // Writes the n elements from `from` again from `to` on, all read before the first is written. They go through the local copy
 // where they are 64 KB at most: the elements of a type parameter could be of any size.
+// A range to read and one to write of the same slice cannot both be lent, so places and numbers go beside it, here and below.
 fn move_few<T: Copy>(a: &mut [T], from: usize, to: usize, n: usize)
     requires { (0 < n) × (n ≤ 4096) × (from + n ≤ length a.old) × (to + n ≤ length a.old) }
     ensures { a.new ≡ moved from to n a.old }

@@ -7,11 +7,12 @@ ghost use Rattle.std.specs.Prelude.{◌≡◌, ◌^◌, ◌<◌, ◌≤◌, true
 ghost use Rattle.std.proofs.Math.Option.{some};
 ghost use Rattle.model.specs.Questions.{clock_bound, offset_allowed, timing_held, one_way_held, clock_held, probe_allowed, depth_allowed};
 ghost use Rattle.model.specs.Sizes.{between};
+ghost use Rattle.calls.specs.Views.{model_counts};
 ghost use Rattle.model.specs.Clock.{fresh_clock, step_toward, least_after, passes_gate, timing_after, record_probe, bits64, one_way_in_range, one_way_of, one_way_after, record_one_way, samples_ms, depth_after, record_depth, record_transmit, in_ms, one_way_ms, round_trip_ms, offset_ms, depth_ms, depth_peak_ms};
 ghost use Rattle.audio_metrics.specs.Requires.{StepFits, ProbeFits, Probed, OneWayFits};
 ghost use Rattle.audio_metrics.specs.Views.{timing_of, known_of, delay_of, depth_known, depth_of, reading_of, clock_of};
 
-use std::num::{wrapping_add_u64, wrapping_sub_u64};
+use calls::DepthCounts;
 use udp_framing::words::as_signed;
 
 const SAMPLE_RATE_HZ: f32 = 48_000.0;
@@ -105,8 +106,8 @@ fn timing_after(timing: Option<ClockTiming>, offset: i64, rtt: u64) -> ClockTimi
 fn one_way_of(recv: u64, send: u64, offset: i64) -> i64
     ensures { result ≡ one_way_of recv send offset }
 {
-    let delay = wrapping_sub_u64(recv, send);
-    as_signed(wrapping_add_u64(delay, as_bits(offset)))
+    let delay = recv.wrapping_sub(send);
+    as_signed(delay.wrapping_add(as_bits(offset)))
 }
 
 // The bits of a signed number.
@@ -128,6 +129,8 @@ fn one_way_after(old: Option<i64>, new: i64) -> i64
 }
 
 // A number of samples in ms.
+// Question 9's bound stays a fact of each contract: callers hold a plain number, which they ask about once, and each reading
+// of it would take a type of its own apart.
 fn samples_ms(samples: usize) -> f32
     requires { samples ≤ 16777216 }
     ensures { result ≡ samples_ms samples }
@@ -183,7 +186,7 @@ pub fn depth_in_range(samples: usize) -> bool
 fn rtt_could_be_held(rtt: u64) -> bool
     ensures { result ≡ between 1 clock_bound rtt }
 {
-    1 <= rtt && rtt <= 4611686018427387903
+    (1..=4611686018427387903).contains(&rtt)
 }
 
 fn timing_could_be_held(timing: Option<ClockTiming>) -> bool
@@ -269,24 +272,17 @@ impl AudioMetrics {
     }
 
     // Publishes the depth of the receive buffer with its four counts.
-    pub fn publish_jitter(
-        self,
-        samples: usize,
-        conceals: u64,
-        late: u64,
-        overflow: u64,
-        resyncs: u64,
-    ) -> AudioMetrics
+    pub fn publish_jitter(self, samples: usize, counts: DepthCounts) -> AudioMetrics
         requires { samples ≤ 16777216 }
-        ensures { clock_of result ≡ record_depth samples (record { conceals = conceals; late = late; overflow = overflow; resyncs = resyncs }) (clock_of self) }
+        ensures { clock_of result ≡ record_depth samples (model_counts counts) (clock_of self) }
     {
         let next = depth_after(self.jitter, samples_ms(samples));
         AudioMetrics {
             jitter: Some(next),
-            conceals,
-            late,
-            overflow,
-            resyncs,
+            conceals: counts.conceals,
+            late: counts.late,
+            overflow: counts.overflow,
+            resyncs: counts.resyncs,
             ..self
         }
     }

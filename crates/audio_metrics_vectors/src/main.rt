@@ -10,473 +10,396 @@ use audio_metrics_words::exports::{
     audio_metrics_record_audio_one_way, audio_metrics_record_probe, audio_metrics_resyncs,
     audio_metrics_rtt_ms, audio_metrics_rx_one_way_ms, audio_metrics_tx_ring_peak_ms,
 };
+use std::fmt::Display;
 
-// A file descriptor.
-const STDOUT_FILENO: i32 = 1;
-
+// A state in its words, whose answers are held against the vectors, and how many of them were seen and differ. A line that
+// cannot be written is left out, and changes no count.
 #[derive(Clone, Copy)]
-struct Tally {
+struct Session {
+    rt: HostRuntime,
+    words: [u64; 14],
     seen: u64,
     different: u64,
 }
 
-impl Tally {
+impl Session {
+    // A new state.
+    fn begin(&mut self) {
+        audio_metrics_new(&mut self.words);
+    }
+
     fn count(&mut self, equal: bool) {
         self.seen = self.seen.wrapping_add(1);
         if !equal {
             self.different = self.different.wrapping_add(1);
         }
     }
-}
 
-fn write(text: &[u8]) {
-    io::write_all(STDOUT_FILENO, text);
-}
-
-fn write_signed(n: i64) {
-    if n < 0 {
-        write(b"-");
+    // What was found under a name, and whether it is what was expected.
+    fn compared<D: Display + Drop, E: Display + Drop>(
+        &mut self,
+        name: &str,
+        equal: bool,
+        found: D,
+        expected: E,
+    ) {
+        let _ = if equal {
+            println!(self.rt; "  {name} {found} equal")
+        } else {
+            println!(self.rt; "  {name} {found} DIFFERS, expected {expected}")
+        };
+        self.count(equal);
     }
-    io::print_decimal(STDOUT_FILENO, n.unsigned_abs());
-}
 
-// Nine digits: 1 where a reading may be absent and is there, then its pattern.
-fn write_pattern(word: u64) {
-    io::print_hex(STDOUT_FILENO, word, 9);
-}
-
-// What was found under a name, written by `show`, and whether it is what was expected.
-fn compare<T: PartialEq + Copy, F: Fn(T)>(
-    t: &mut Tally,
-    name: &[u8],
-    found: T,
-    expected: T,
-    show: F,
-)
-    requires { F.IsAlwaysCallable show }
-{
-    write(b"  ");
-    write(name);
-    show(found);
-    if found == expected {
-        write(b" equal\n");
-    } else {
-        write(b" DIFFERS, expected ");
-        show(expected);
-        write(b"\n");
+    // The signed number that a word is.
+    fn number(&mut self, name: &str, word: u64, expected: i64) {
+        let found = word.cast_signed();
+        self.compared(name, found == expected, found, expected);
     }
-    t.count(found == expected);
-}
 
-// The signed number that a word is.
-fn number(t: &mut Tally, name: &[u8], word: u64, expected: i64) {
-    compare(t, name, word.cast_signed(), expected, write_signed);
-}
-
-fn reading(t: &mut Tally, name: &[u8], found: u64, expected: u64) {
-    compare(t, name, found, expected, write_pattern);
-}
-
-// A call's line: whether it was accepted, and whether it should have been.
-fn called(t: &mut Tally, what: &[u8], of: &[u8], found: bool, expected: bool) {
-    write(what);
-    write(of);
-    if found {
-        write(b": accepted");
-    } else {
-        write(b": refused");
+    // Nine digits: 1 where a reading may be absent and is there, then its pattern.
+    fn reading(&mut self, name: &str, found: u64, expected: u64) {
+        self.compared(
+            name,
+            found == expected,
+            format_args!("{found:09x}"),
+            format_args!("{expected:09x}"),
+        );
     }
-    if found == expected {
-        write(b", equal\n");
-    } else {
-        write(b", DIFFERS\n");
+
+    // A call's line: whether it was accepted, and whether it should have been.
+    fn called(&mut self, what: &str, of: &str, found: bool, expected: bool) {
+        let answer = if found { "accepted" } else { "refused" };
+        let verdict = if found == expected {
+            "equal"
+        } else {
+            "DIFFERS"
+        };
+        let _ = println!(self.rt; "{what} {of}: {answer}, {verdict}");
+        self.count(found == expected);
     }
-    t.count(found == expected);
-}
 
-fn probe(t: &mut Tally, s: &mut [u64; 14], of: &[u8], offset: i64, rtt: i64) {
-    called(
-        t,
-        b"probe ",
-        of,
-        audio_metrics_record_probe(s, offset, rtt),
-        true,
-    );
-}
+    fn asked_probe(&mut self, of: &str, offset: i64, rtt: i64, expected: bool) {
+        let found = audio_metrics_record_probe(&mut self.words, offset, rtt);
+        self.called("probe", of, found, expected);
+    }
 
-fn one_way(t: &mut Tally, s: &mut [u64; 14], of: &[u8], recv: u64, send: u64) {
-    called(
-        t,
-        b"one way ",
-        of,
-        audio_metrics_record_audio_one_way(s, recv, send),
-        true,
-    );
-}
+    fn probe(&mut self, of: &str, offset: i64, rtt: i64) {
+        self.asked_probe(of, offset, rtt, true);
+    }
 
-fn depth(t: &mut Tally, s: &mut [u64; 14], of: &[u8], samples: usize) {
-    called(
-        t,
-        b"depth ",
-        of,
-        audio_metrics_publish_jitter(s, samples, 1, 2, 3, 4),
-        true,
-    );
-}
+    fn one_way(&mut self, of: &str, recv: u64, send: u64) {
+        let found = audio_metrics_record_audio_one_way(&mut self.words, recv, send);
+        self.called("one way", of, found, true);
+    }
 
-fn transmit(t: &mut Tally, s: &mut [u64; 14], of: &[u8], samples: usize) {
-    called(
-        t,
-        b"transmit ",
-        of,
-        audio_metrics_note_tx_ring(s, samples),
-        true,
-    );
-}
+    fn depth(&mut self, of: &str, samples: usize) {
+        let found = audio_metrics_publish_jitter(&mut self.words, samples, 1, 2, 3, 4);
+        self.called("depth", of, found, true);
+    }
 
-fn timing(t: &mut Tally, s: &[u64; 14], offset: i64, rtt: i64, least: i64) {
-    number(t, b"offset ", s[1], offset);
-    number(t, b"round trip ", s[2], rtt);
-    number(t, b"least ", s[3], least);
-}
+    fn transmit(&mut self, of: &str, samples: usize, expected: bool) {
+        let found = audio_metrics_note_tx_ring(&mut self.words, samples);
+        self.called("transmit", of, found, expected);
+    }
 
-fn no_delay(t: &mut Tally, s: &[u64; 14]) {
-    number(t, b"one way known ", s[4], 0);
-}
+    fn could_be_held(&mut self, of: &str, expected: bool) {
+        let found = audio_metrics_could_be_held(&self.words);
+        self.called("words", of, found, expected);
+    }
 
-fn delay(t: &mut Tally, s: &[u64; 14], expected: i64) {
-    number(t, b"one way known ", s[4], 1);
-    number(t, b"one way ", s[5], expected);
+    fn known(&mut self, name: &str, expected: i64) {
+        let word = self.words[0];
+        self.number(name, word, expected);
+    }
+
+    fn offset(&mut self, expected: i64) {
+        let word = self.words[1];
+        self.number("offset", word, expected);
+    }
+
+    fn timing(&mut self, offset: i64, rtt: i64, least: i64) {
+        let words = self.words;
+        self.offset(offset);
+        self.number("round trip", words[2], rtt);
+        self.number("least", words[3], least);
+    }
+
+    fn no_delay(&mut self) {
+        let word = self.words[4];
+        self.number("one way known", word, 0);
+    }
+
+    fn delay(&mut self, expected: i64) {
+        let words = self.words;
+        self.number("one way known", words[4], 1);
+        self.number("one way", words[5], expected);
+    }
+
+    fn depth_readings(&mut self, average: u64, peak: u64) {
+        let words = self.words;
+        self.reading("average", audio_metrics_jitter_ms(&words) as u64, average);
+        self.reading("peak", audio_metrics_jitter_peak_ms(&words) as u64, peak);
+    }
+
+    fn peak(&mut self, expected: u64) {
+        let found = audio_metrics_tx_ring_peak_ms(&self.words);
+        self.reading("peak", found as u64, expected);
+    }
+
+    fn sum_up(self) {
+        let Session {
+            rt,
+            seen,
+            different,
+            ..
+        } = self;
+        let _ = if different == 0 {
+            println!(rt; "all {seen} vectors equal")
+        } else {
+            println!(rt; "{different} of {seen} vectors differ")
+        };
+    }
 }
 
 // The document's session.
-fn probes_of_the_document(t: &mut Tally) {
-    let mut s = [0u64; 14];
-    audio_metrics_new(&mut s);
-    number(t, b"new: known ", s[0], 0);
-    probe(t, &mut s, b"100, 64", 100, 64);
-    timing(t, &s, 100, 64, 64);
-    probe(t, &mut s, b"90, 96", 90, 96);
-    timing(t, &s, 98, 96, 65);
-    probe(t, &mut s, b"0, 200", 0, 200);
-    timing(t, &s, 98, 200, 66);
+fn probes_of_the_document(s: &mut Session) {
+    s.begin();
+    s.known("new: known", 0);
+    s.probe("100, 64", 100, 64);
+    s.timing(100, 64, 64);
+    s.probe("90, 96", 90, 96);
+    s.timing(98, 96, 65);
+    s.probe("0, 200", 0, 200);
+    s.timing(98, 200, 66);
 }
 
 // The gate after the least 65 is at 97.
-fn probes_at_the_gate(t: &mut Tally) {
-    let mut s = [0u64; 14];
-    audio_metrics_new(&mut s);
-    probe(t, &mut s, b"100, 64", 100, 64);
-    probe(t, &mut s, b"90, 97", 90, 97);
-    timing(t, &s, 98, 97, 65);
-    audio_metrics_new(&mut s);
-    probe(t, &mut s, b"100, 64", 100, 64);
-    probe(t, &mut s, b"90, 98", 90, 98);
-    timing(t, &s, 100, 98, 65);
-    audio_metrics_new(&mut s);
-    probe(t, &mut s, b"100, 64", 100, 64);
-    probe(t, &mut s, b"0, 200", 0, 200);
-    timing(t, &s, 100, 200, 65);
+fn probes_at_the_gate(s: &mut Session) {
+    s.begin();
+    s.probe("100, 64", 100, 64);
+    s.probe("90, 97", 90, 97);
+    s.timing(98, 97, 65);
+    s.begin();
+    s.probe("100, 64", 100, 64);
+    s.probe("90, 98", 90, 98);
+    s.timing(100, 98, 65);
+    s.begin();
+    s.probe("100, 64", 100, 64);
+    s.probe("0, 200", 0, 200);
+    s.timing(100, 200, 65);
 }
 
 // A round trip of 0 or less.
-fn probes_that_are_ignored(t: &mut Tally) {
-    let mut s = [0u64; 14];
-    audio_metrics_new(&mut s);
-    probe(t, &mut s, b"50, 0", 50, 0);
-    number(t, b"known ", s[0], 0);
-    probe(t, &mut s, b"100, 64", 100, 64);
-    probe(t, &mut s, b"50, 0", 50, 0);
-    timing(t, &s, 100, 64, 64);
-    probe(t, &mut s, b"50, -1", 50, -1);
-    timing(t, &s, 100, 64, 64);
-    probe(t, &mut s, b"50, -2^63", 50, -9223372036854775808);
-    timing(t, &s, 100, 64, 64);
+fn probes_that_are_ignored(s: &mut Session) {
+    s.begin();
+    s.probe("50, 0", 50, 0);
+    s.known("known", 0);
+    s.probe("100, 64", 100, 64);
+    s.probe("50, 0", 50, 0);
+    s.timing(100, 64, 64);
+    s.probe("50, -1", 50, -1);
+    s.timing(100, 64, 64);
+    s.probe("50, -2^63", 50, -9223372036854775808);
+    s.timing(100, 64, 64);
 }
 
 // A fourth of the way, toward zero.
-fn fourth_steps(t: &mut Tally) {
-    let mut s = [0u64; 14];
-    audio_metrics_new(&mut s);
-    probe(t, &mut s, b"100, 64", 100, 64);
-    probe(t, &mut s, b"97, 64", 97, 64);
-    number(t, b"offset ", s[1], 100);
-    probe(t, &mut s, b"96, 64", 96, 64);
-    number(t, b"offset ", s[1], 99);
-    probe(t, &mut s, b"103, 64", 103, 64);
-    number(t, b"offset ", s[1], 100);
-    audio_metrics_new(&mut s);
-    probe(t, &mut s, b"-100, 64", -100, 64);
-    probe(t, &mut s, b"-97, 64", -97, 64);
-    number(t, b"offset ", s[1], -100);
-    probe(t, &mut s, b"-96, 64", -96, 64);
-    number(t, b"offset ", s[1], -99);
-    probe(t, &mut s, b"-103, 64", -103, 64);
-    number(t, b"offset ", s[1], -100);
+fn fourth_steps(s: &mut Session) {
+    s.begin();
+    s.probe("100, 64", 100, 64);
+    s.probe("97, 64", 97, 64);
+    s.offset(100);
+    s.probe("96, 64", 96, 64);
+    s.offset(99);
+    s.probe("103, 64", 103, 64);
+    s.offset(100);
+    s.begin();
+    s.probe("-100, 64", -100, 64);
+    s.probe("-97, 64", -97, 64);
+    s.offset(-100);
+    s.probe("-96, 64", -96, 64);
+    s.offset(-99);
+    s.probe("-103, 64", -103, 64);
+    s.offset(-100);
 }
 
 // Question 9 of a probe, at its ends and one beyond each.
-fn probes_at_the_bound(t: &mut Tally) {
-    let mut s = [0u64; 14];
+fn probes_at_the_bound(s: &mut Session) {
     let most = 4611686018427387903;
-    audio_metrics_new(&mut s);
-    called(
-        t,
-        b"probe ",
-        b"2^62, 64",
-        audio_metrics_record_probe(&mut s, 4611686018427387904, 64),
-        false,
-    );
-    called(
-        t,
-        b"probe ",
-        b"-2^62, 64",
-        audio_metrics_record_probe(&mut s, -4611686018427387904, 64),
-        false,
-    );
-    called(
-        t,
-        b"probe ",
-        b"0, 2^62",
-        audio_metrics_record_probe(&mut s, 0, 4611686018427387904),
-        false,
-    );
-    number(t, b"known ", s[0], 0);
-    probe(
-        t,
-        &mut s,
-        b"2^62 - 1, 2^62 - 1",
+    s.begin();
+    s.asked_probe("2^62, 64", 4611686018427387904, 64, false);
+    s.asked_probe("-2^62, 64", -4611686018427387904, 64, false);
+    s.asked_probe("0, 2^62", 0, 4611686018427387904, false);
+    s.known("known", 0);
+    s.probe(
+        "2^62 - 1, 2^62 - 1",
         4611686018427387903,
         4611686018427387903,
     );
-    timing(t, &s, most, most, most);
-    probe(
-        t,
-        &mut s,
-        b"-2^62 + 1, 2^62 - 1",
+    s.timing(most, most, most);
+    s.probe(
+        "-2^62 + 1, 2^62 - 1",
         -4611686018427387903,
         4611686018427387903,
     );
-    timing(t, &s, 2305843009213693952, most, most);
-    probe(t, &mut s, b"-2^62 + 1, 1", -4611686018427387903, 1);
-    timing(t, &s, 576460752303423489, 1, 1);
+    s.timing(2305843009213693952, most, most);
+    s.probe("-2^62 + 1, 1", -4611686018427387903, 1);
+    s.timing(576460752303423489, 1, 1);
 }
 
 // Words that no receiver holds.
-fn words_that_are_refused(t: &mut Tally) {
-    let mut s = [0u64; 14];
-    audio_metrics_new(&mut s);
-    called(t, b"words ", b"new", audio_metrics_could_be_held(&s), true);
-    s[4] = 1;
-    called(
-        t,
-        b"words ",
-        b"a delay without an offset",
-        audio_metrics_could_be_held(&s),
-        false,
-    );
-    called(
-        t,
-        b"transmit ",
-        b"480",
-        audio_metrics_note_tx_ring(&mut s, 480),
-        false,
-    );
-    number(t, b"peak ", s[13], 0);
-    s[4] = 0;
-    s[0] = 1;
-    called(
-        t,
-        b"words ",
-        b"a round trip of 0",
-        audio_metrics_could_be_held(&s),
-        false,
-    );
-    s[2] = 4611686018427387903;
-    s[3] = 1;
-    called(
-        t,
-        b"words ",
-        b"a round trip of 2^62 - 1",
-        audio_metrics_could_be_held(&s),
-        true,
-    );
-    s[3] = 4611686018427387904;
-    called(
-        t,
-        b"words ",
-        b"a least of 2^62",
-        audio_metrics_could_be_held(&s),
-        false,
-    );
+fn words_that_are_refused(s: &mut Session) {
+    s.begin();
+    s.could_be_held("new", true);
+    s.words[4] = 1;
+    s.could_be_held("a delay without an offset", false);
+    s.transmit("480", 480, false);
+    let word = s.words[13];
+    s.number("peak", word, 0);
+    s.words[4] = 0;
+    s.words[0] = 1;
+    s.could_be_held("a round trip of 0", false);
+    s.words[2] = 4611686018427387903;
+    s.words[3] = 1;
+    s.could_be_held("a round trip of 2^62 - 1", true);
+    s.words[3] = 4611686018427387904;
+    s.could_be_held("a least of 2^62", false);
 }
 
 // The ends of the range, one beyond each, and before the first offset.
-fn delays_at_the_ends(t: &mut Tally) {
-    let mut s = [0u64; 14];
-    audio_metrics_new(&mut s);
-    one_way(t, &mut s, b"7, 3 before an offset", 7, 3);
-    no_delay(t, &s);
-    probe(t, &mut s, b"0, 64", 0, 64);
-    one_way(t, &mut s, b"0, 1000000001", 0, 1000000001);
-    no_delay(t, &s);
-    one_way(t, &mut s, b"5000000001, 0", 5000000001, 0);
-    no_delay(t, &s);
-    one_way(t, &mut s, b"0, 1000000000", 0, 1000000000);
-    delay(t, &s, -1000000000);
-    one_way(t, &mut s, b"5000000000, 0", 5000000000, 0);
-    delay(t, &s, -250000000);
-    one_way(t, &mut s, b"5000000001, 0", 5000000001, 0);
-    delay(t, &s, -250000000);
-    one_way(t, &mut s, b"0, 1000000001", 0, 1000000001);
-    delay(t, &s, -250000000);
+fn delays_at_the_ends(s: &mut Session) {
+    s.begin();
+    s.one_way("7, 3 before an offset", 7, 3);
+    s.no_delay();
+    s.probe("0, 64", 0, 64);
+    s.one_way("0, 1000000001", 0, 1000000001);
+    s.no_delay();
+    s.one_way("5000000001, 0", 5000000001, 0);
+    s.no_delay();
+    s.one_way("0, 1000000000", 0, 1000000000);
+    s.delay(-1000000000);
+    s.one_way("5000000000, 0", 5000000000, 0);
+    s.delay(-250000000);
+    s.one_way("5000000001, 0", 5000000001, 0);
+    s.delay(-250000000);
+    s.one_way("0, 1000000001", 0, 1000000001);
+    s.delay(-250000000);
 }
 
 // An eighth of the way, toward zero.
-fn eighth_steps(t: &mut Tally) {
-    let mut s = [0u64; 14];
-    audio_metrics_new(&mut s);
-    probe(t, &mut s, b"0, 64", 0, 64);
-    one_way(t, &mut s, b"100, 0", 100, 0);
-    delay(t, &s, 100);
-    one_way(t, &mut s, b"107, 0", 107, 0);
-    delay(t, &s, 100);
-    one_way(t, &mut s, b"93, 0", 93, 0);
-    delay(t, &s, 100);
-    one_way(t, &mut s, b"108, 0", 108, 0);
-    delay(t, &s, 101);
-    one_way(t, &mut s, b"92, 0", 92, 0);
-    delay(t, &s, 100);
-    one_way(t, &mut s, b"0, 100", 0, 100);
-    delay(t, &s, 75);
-    one_way(t, &mut s, b"0, 0", 0, 0);
-    delay(t, &s, 66);
+fn eighth_steps(s: &mut Session) {
+    s.begin();
+    s.probe("0, 64", 0, 64);
+    s.one_way("100, 0", 100, 0);
+    s.delay(100);
+    s.one_way("107, 0", 107, 0);
+    s.delay(100);
+    s.one_way("93, 0", 93, 0);
+    s.delay(100);
+    s.one_way("108, 0", 108, 0);
+    s.delay(101);
+    s.one_way("92, 0", 92, 0);
+    s.delay(100);
+    s.one_way("0, 100", 0, 100);
+    s.delay(75);
+    s.one_way("0, 0", 0, 0);
+    s.delay(66);
 }
 
 // Times at the wrap of 64 bits.
-fn delays_that_wrap(t: &mut Tally) {
-    let mut s = [0u64; 14];
-    audio_metrics_new(&mut s);
-    probe(t, &mut s, b"-1000, 64", -1000, 64);
-    one_way(t, &mut s, b"5, 2^64 - 1", 5, 0xffff_ffff_ffff_ffff);
-    delay(t, &s, -994);
-    one_way(t, &mut s, b"1000, 0", 1000, 0);
-    delay(t, &s, -870);
-    one_way(t, &mut s, b"2^64 - 1, 0", 0xffff_ffff_ffff_ffff, 0);
-    delay(t, &s, -886);
-    one_way(t, &mut s, b"0, 2^64 - 1", 0, 0xffff_ffff_ffff_ffff);
-    delay(t, &s, -900);
-}
-
-fn depth_readings(t: &mut Tally, s: &[u64; 14], average: u64, peak: u64) {
-    reading(t, b"average ", audio_metrics_jitter_ms(s) as u64, average);
-    reading(t, b"peak ", audio_metrics_jitter_peak_ms(s) as u64, peak);
+fn delays_that_wrap(s: &mut Session) {
+    s.begin();
+    s.probe("-1000, 64", -1000, 64);
+    s.one_way("5, 2^64 - 1", 5, 0xffff_ffff_ffff_ffff);
+    s.delay(-994);
+    s.one_way("1000, 0", 1000, 0);
+    s.delay(-870);
+    s.one_way("2^64 - 1, 0", 0xffff_ffff_ffff_ffff, 0);
+    s.delay(-886);
+    s.one_way("0, 2^64 - 1", 0, 0xffff_ffff_ffff_ffff);
+    s.delay(-900);
 }
 
 // The first is taken whole, then an average and a peak that decays.
-fn depths(t: &mut Tally) {
-    let mut s = [0u64; 14];
-    audio_metrics_new(&mut s);
-    depth_readings(t, &s, 0, 0);
-    depth(t, &mut s, b"480", 480);
-    depth_readings(t, &s, 0x4120_0000, 0x4120_0000);
-    depth(t, &mut s, b"0", 0);
-    depth_readings(t, &s, 0x411e_6666, 0x411f_d70a);
-    depth(t, &mut s, b"16777216", 16777216);
-    depth_readings(t, &s, 0x455b_10de, 0x48aa_aaab);
-    called(
-        t,
-        b"depth ",
-        b"16777217",
-        audio_metrics_publish_jitter(&mut s, 16777217, 5, 6, 7, 8),
-        false,
-    );
-    depth_readings(t, &s, 0x455b_10de, 0x48aa_aaab);
-    number(t, b"conceals ", audio_metrics_conceals(&s), 1);
-    number(t, b"late ", audio_metrics_late(&s), 2);
-    number(t, b"overflow ", audio_metrics_overflow(&s), 3);
-    number(t, b"resyncs ", audio_metrics_resyncs(&s), 4);
-    depth(t, &mut s, b"1", 1);
-    depth_readings(t, &s, 0x4558_e010, 0x48aa_7efa);
+fn depths(s: &mut Session) {
+    s.begin();
+    s.depth_readings(0, 0);
+    s.depth("480", 480);
+    s.depth_readings(0x4120_0000, 0x4120_0000);
+    s.depth("0", 0);
+    s.depth_readings(0x411e_6666, 0x411f_d70a);
+    s.depth("16777216", 16777216);
+    s.depth_readings(0x455b_10de, 0x48aa_aaab);
+    let found = audio_metrics_publish_jitter(&mut s.words, 16777217, 5, 6, 7, 8);
+    s.called("depth", "16777217", found, false);
+    s.depth_readings(0x455b_10de, 0x48aa_aaab);
+    let words = s.words;
+    s.number("conceals", audio_metrics_conceals(&words), 1);
+    s.number("late", audio_metrics_late(&words), 2);
+    s.number("overflow", audio_metrics_overflow(&words), 3);
+    s.number("resyncs", audio_metrics_resyncs(&words), 4);
+    s.depth("1", 1);
+    s.depth_readings(0x4558_e010, 0x48aa_7efa);
 }
 
-fn peak(t: &mut Tally, s: &[u64; 14], expected: u64) {
-    let found = audio_metrics_tx_ring_peak_ms(s);
-    reading(t, b"peak ", found as u64, expected);
-}
-
-fn transmit_depths(t: &mut Tally) {
-    let mut s = [0u64; 14];
-    audio_metrics_new(&mut s);
-    transmit(t, &mut s, b"0", 0);
-    peak(t, &s, 0);
-    transmit(t, &mut s, b"480", 480);
-    peak(t, &s, 0x4120_0000);
-    transmit(t, &mut s, b"0", 0);
-    peak(t, &s, 0x411e_6666);
-    transmit(t, &mut s, b"16777216", 16777216);
-    peak(t, &s, 0x48aa_aaab);
-    called(
-        t,
-        b"transmit ",
-        b"16777217",
-        audio_metrics_note_tx_ring(&mut s, 16777217),
-        false,
-    );
-    peak(t, &s, 0x48aa_aaab);
-    transmit(t, &mut s, b"48000", 48000);
-    peak(t, &s, 0x48a8_f5c3);
+fn transmit_depths(s: &mut Session) {
+    s.begin();
+    s.transmit("0", 0, true);
+    s.peak(0);
+    s.transmit("480", 480, true);
+    s.peak(0x4120_0000);
+    s.transmit("0", 0, true);
+    s.peak(0x411e_6666);
+    s.transmit("16777216", 16777216, true);
+    s.peak(0x48aa_aaab);
+    s.transmit("16777217", 16777217, false);
+    s.peak(0x48aa_aaab);
+    s.transmit("48000", 48000, true);
+    s.peak(0x48a8_f5c3);
 }
 
 // Each reading in ms, absent and then there.
-fn readings_in_ms(t: &mut Tally) {
-    let mut s = [0u64; 14];
-    audio_metrics_new(&mut s);
-    reading(t, b"one way ", audio_metrics_rx_one_way_ms(&s), 0);
-    reading(t, b"round trip ", audio_metrics_rtt_ms(&s), 0);
-    reading(t, b"offset ", audio_metrics_clock_offset_ms(&s), 0);
-    probe(t, &mut s, b"-2500000, 1234567", -2500000, 1234567);
-    one_way(t, &mut s, b"12345678, 0", 12345678, 0);
-    reading(
-        t,
-        b"one way ",
-        audio_metrics_rx_one_way_ms(&s),
+fn readings_in_ms(s: &mut Session) {
+    s.begin();
+    let words = s.words;
+    s.reading("one way", audio_metrics_rx_one_way_ms(&words), 0);
+    s.reading("round trip", audio_metrics_rtt_ms(&words), 0);
+    s.reading("offset", audio_metrics_clock_offset_ms(&words), 0);
+    s.probe("-2500000, 1234567", -2500000, 1234567);
+    s.one_way("12345678, 0", 12345678, 0);
+    let words = s.words;
+    s.reading(
+        "one way",
+        audio_metrics_rx_one_way_ms(&words),
         0x1_411d_87e6,
     );
-    reading(t, b"round trip ", audio_metrics_rtt_ms(&s), 0x1_3f9e_064b);
-    reading(
-        t,
-        b"offset ",
-        audio_metrics_clock_offset_ms(&s),
+    s.reading("round trip", audio_metrics_rtt_ms(&words), 0x1_3f9e_064b);
+    s.reading(
+        "offset",
+        audio_metrics_clock_offset_ms(&words),
         0x1_c020_0000,
     );
 }
 
-fn main() {
-    let mut t = Tally {
+fn main(rt: HostRuntime) {
+    let mut s = Session {
+        rt,
+        words: [0; 14],
         seen: 0,
         different: 0,
     };
-    probes_of_the_document(&mut t);
-    probes_at_the_gate(&mut t);
-    probes_that_are_ignored(&mut t);
-    fourth_steps(&mut t);
-    probes_at_the_bound(&mut t);
-    words_that_are_refused(&mut t);
-    delays_at_the_ends(&mut t);
-    eighth_steps(&mut t);
-    delays_that_wrap(&mut t);
-    depths(&mut t);
-    transmit_depths(&mut t);
-    readings_in_ms(&mut t);
-    if t.different == 0 {
-        write(b"all ");
-        io::print_decimal(STDOUT_FILENO, t.seen);
-        write(b" vectors equal\n");
-    } else {
-        io::print_decimal(STDOUT_FILENO, t.different);
-        write(b" of ");
-        io::print_decimal(STDOUT_FILENO, t.seen);
-        write(b" vectors differ\n");
-    }
+    probes_of_the_document(&mut s);
+    probes_at_the_gate(&mut s);
+    probes_that_are_ignored(&mut s);
+    fourth_steps(&mut s);
+    probes_at_the_bound(&mut s);
+    words_that_are_refused(&mut s);
+    delays_at_the_ends(&mut s);
+    eighth_steps(&mut s);
+    delays_that_wrap(&mut s);
+    depths(&mut s);
+    transmit_depths(&mut s);
+    readings_in_ms(&mut s);
+    s.sum_up();
 }

@@ -1,5 +1,6 @@
 // The functions of audio_metrics for programs in other languages, under names with a prefix, over a state in 14 words.
-// A call on words that no receiver could hold, or with numbers out of range, leaves them and answers false.
+// A call on words that no receiver could hold, or with numbers out of range, leaves them and answers false. Numbers go in one
+// by one, as those languages hand them over.
 ghost use Rattle.std.specs.Prelude.{◌≡◌, true};
 ghost use Rattle.model.specs.Floats.{to_bits};
 ghost use Rattle.model.specs.Questions.{clock_held, probe_allowed, depth_allowed};
@@ -9,6 +10,7 @@ ghost use Rattle.audio_metrics_words.specs.Words.{clock_in, clock_words, acts, w
 
 use crate::{from_words, to_words};
 use audio_metrics::AudioMetrics;
+use calls::DepthCounts;
 
 // The words before the first number.
 #[unsafe(no_mangle)]
@@ -76,7 +78,13 @@ pub extern "C" fn audio_metrics_publish_jitter(
     let m = from_words(state);
     if m.could_be_held() {
         if audio_metrics::depth_in_range(samples) {
-            *state = to_words(m.publish_jitter(samples, conceals, late, overflow, resyncs));
+            let counts = DepthCounts {
+                conceals,
+                late,
+                overflow,
+                resyncs,
+            };
+            *state = to_words(m.publish_jitter(samples, counts));
             return true;
         }
     }

@@ -1,5 +1,6 @@
 // The static library of `audio_metrics_words` for programs in other languages: each function calls the one of the same name
-// in its module `exports`, under the same contract.
+// in its module `exports`, under the same contract. Both stay, since a crate is a library or a static library, and the program
+// audio_metrics_vectors calls the ones of the library.
 #![tactic(auto)]
 
 ghost use Rattle.std.specs.Prelude.{◌≡◌, true};

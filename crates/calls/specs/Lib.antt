@@ -1,2 +1,3 @@
 pub mod Views
 pub mod Refusals
+pub mod Sides

@@ -4,12 +4,22 @@
 
 ghost use Rattle.std.specs.Prelude.{◌≡◌};
 ghost use Rattle.calls.specs.Refusals.{refusal_number};
+ghost use Rattle.calls.specs.Sides.{side_named};
 
 // The two channels.
 #[derive(Clone, Copy, PartialEq, Eq, Debug)]
 pub enum Side {
     A,
     B,
+}
+
+impl Side {
+    // The channel that a program in another language names: 0 is channel A and any other number B.
+    pub fn from_number(n: u64) -> Side
+        ensures { result ≡ side_named n }
+    {
+        if n == 0 { Side::A } else { Side::B }
+    }
 }
 
 // The six sizes of a receiver.
@@ -48,6 +58,15 @@ pub struct DepthCounts {
     pub late: u64,
     pub overflow: u64,
     pub resyncs: u64,
+}
+
+// A probe's four times, in nanoseconds: client send, server receive, server send and client receive.
+#[derive(Clone, Copy, PartialEq, Eq, Debug)]
+pub struct ProbeTimes {
+    pub t1: u64,
+    pub t2: u64,
+    pub t3: u64,
+    pub t4: u64,
 }
 
 // The questions that an operation asks before it acts, by what a "no" says.

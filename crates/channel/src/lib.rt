@@ -8,6 +8,7 @@ ghost use Rattle.channel.specs.Promises.{FreshChannel, Asked, ChannelAsked, Read
 
 use calls::{Estimates, Settings, Sizes};
 use jitter_buffer::JitterBuffer;
+use sizes::AllowedSizes;
 use udp::Display;
 use udp_packets::Screen;
 
@@ -51,7 +52,7 @@ impl Channel {
         requires { Asked z (length us.now) }
         ensures { ChannelAsked z self us.now calls result }
     {
-        let most = sizes::most_waiting(z);
+        let most = AllowedSizes { sizes: z }.most_waiting();
         let jitter = self.jitter;
         if !jitter_asking::could_be_held(jitter, z, &us[..most], calls) {
             return false;
@@ -72,7 +73,7 @@ impl Channel {
         requires { Ready z self fs.old us.old }
         ensures { AudioTaken z self fs.old us.old sequence payload.now result fs.new us.new }
     {
-        let offsets = sizes::section_offsets(z);
+        let offsets = AllowedSizes { sizes: z }.section_offsets();
         let row = offsets.row;
         let most = offsets.picture;
         let before = self.jitter;
@@ -84,8 +85,7 @@ impl Channel {
             sequence,
             payload,
         );
-        let screen = self.screen;
-        Channel { jitter, screen }
+        Channel { jitter, ..self }
     }
 
     // A play of as many samples as the output has.
@@ -93,15 +93,14 @@ impl Channel {
         requires { Ready z self fs.old us.old × (length out.old ≤ 65535) }
         ensures { ChannelPlayed z self fs.old us.old out.old result fs.new us.new out.new }
     {
-        let offsets = sizes::section_offsets(z);
+        let offsets = AllowedSizes { sizes: z }.section_offsets();
         let row = offsets.row;
         let most = offsets.picture;
         let before = self.jitter;
         let popped = jitter_pop::pop_samples(before, z, &mut fs[..row], &mut us[..most], out);
         let jitter = popped.buffer;
-        let screen = self.screen;
         Played {
-            channel: Channel { jitter, screen },
+            channel: Channel { jitter, ..self },
             taken: popped.taken,
             dropped: popped.dropped,
             short: popped.short,
@@ -112,36 +111,29 @@ impl Channel {
     pub fn reset(self) -> Self
         ensures { (z : Sizes) (fs : List Float) (us : List ℕ) → ResetDone z self fs us result }
     {
-        let before = self.jitter;
-        let jitter = before.reset();
-        let screen = self.screen;
-        Channel { jitter, screen }
+        let jitter = self.jitter.reset();
+        Channel { jitter, ..self }
     }
 
     // New settings. The estimates stay.
     pub fn set(self, settings: Settings) -> Self
         ensures { (z : Sizes) (fs : List Float) (us : List ℕ) → SettingsTaken z settings self fs us result }
     {
-        let before = self.screen;
-        let shown = before.display;
-        let row = before.row;
-        let jitter = self.jitter;
-        let screen = Screen {
-            row,
-            spectrum_len: before.spectrum_len,
-            smooth_len: before.smooth_len,
-            display: Display {
-                adaptive: settings.adaptive,
-                top: floats::from_bits(settings.top),
-                range: floats::from_bits(settings.range),
-                zoom: floats::from_bits(settings.zoom),
-                smoothing: floats::from_bits(settings.smoothing),
-                top_estimate: shown.top_estimate,
-                floor_estimate: shown.floor_estimate,
-                range_estimate: shown.range_estimate,
-            },
+        let display = Display {
+            adaptive: settings.adaptive,
+            top: floats::from_bits(settings.top),
+            range: floats::from_bits(settings.range),
+            zoom: floats::from_bits(settings.zoom),
+            smoothing: floats::from_bits(settings.smoothing),
+            ..self.screen.display
         };
-        Channel { jitter, screen }
+        Channel {
+            screen: Screen {
+                display,
+                ..self.screen
+            },
+            ..self
+        }
     }
 
     // A waterfall payload: its chunk goes to the row, and a row that it completes is shown. `fs` ends with the work
@@ -157,7 +149,7 @@ impl Channel {
         requires { RowReady z self fs.old work us.old payload.now }
         ensures { RowTaken z self fs.old work us.old payload.now result fs.new us.new }
     {
-        let offsets = sizes::section_offsets(z);
+        let offsets = AllowedSizes { sizes: z }.section_offsets();
         let row = offsets.row;
         let picture = offsets.picture;
         let end = picture + z.width * z.height;
@@ -172,9 +164,8 @@ impl Channel {
         );
         let screen = handled.screen;
         let completed = handled.completed;
-        let jitter = self.jitter;
         Shown {
-            channel: Channel { jitter, screen },
+            channel: Channel { screen, ..self },
             completed,
         }
     }

@@ -6,7 +6,8 @@ use mathlib.Core.List.{List, [], ◌∷◌}
 use Prim.Native.Nat.{ℕ, zero, suc, ◌+◌, ◌-◌, ◌*◌, ◌/◌, ◌≤◌, ◌<◌, max}
 use native.Mathlib.Nat.{sub-zero, div-lt_iff_lt-mul}
 use native.Mathlib.Omega.{arith}
-use lib.ListN.{length, drop, get_or, length-take, length-drop}
+use lib.ListN.{length, take, drop, get_or, length-take, length-drop}
+use lib.Seq.{get_or-take, length-take-le}
 use lib.Dec.{leb, ltb, eqb}
 use lib.Ieee.{Float}
 use borrow.Author.Tests.{ltb-true, ltb-false, leb-true, leb-false, eqb-true, eqb-false, lt-ltb, le-ltb, le-leb, lt-leb, eq-eqb, ne_eqb}
@@ -61,17 +62,26 @@ sequences_words packet k zero fs us = refl
 sequences_words packet k (suc n) fs us = rw (sequences_words packet (suc k) n fs us)
 
 -- one pair more
-pub rising_pair : (us : List ℕ) (i m : ℕ) → strictly_rising (words_from i (suc (suc m)) us) ≡ ltb (get_or us i 0) (get_or us (suc i) 0) && strictly_rising (words_from (suc i) (suc m) us)
+rising_pair : (us : List ℕ) (i m : ℕ) → strictly_rising (words_from i (suc (suc m)) us) ≡ ltb (get_or us i 0) (get_or us (suc i) 0) && strictly_rising (words_from (suc i) (suc m) us)
 unfolding words_from strictly_rising
 rising_pair us i m = refl
 
-pub rising_one : (us : List ℕ) (i : ℕ) → true ≡ strictly_rising (words_from i 1 us)
+rising_one : (us : List ℕ) (i : ℕ) → true ≡ strictly_rising (words_from i 1 us)
 unfolding words_from strictly_rising
 rising_one us i = refl
 
-pub rising_none : (us : List ℕ) (i : ℕ) → true ≡ strictly_rising (words_from i 0 us)
+rising_none : (us : List ℕ) (i : ℕ) → true ≡ strictly_rising (words_from i 0 us)
 unfolding words_from strictly_rising
 rising_none us i = refl
+
+-- the first of the sequences, by themselves
+words_front : (us : List ℕ) (k m n : ℕ) → k + m ≤ n → words_from k m (take n us) ≡ words_from k m us
+unfolding words_from
+words_front us k zero n h = refl
+words_front us k (suc m) n h = rw (get_or-take n us k 0 (omega arith), words_front us (suc k) m n (omega arith))
+
+pub front_rises : (us : List ℕ) (n : ℕ) → n ≤ length us → strictly_rising (words_from 0 (length (take n us)) (take n us)) ≡ strictly_rising (words_from 0 n us)
+front_rises us n fits = rw (length-take-le n us fits, words_front us 0 n n (omega arith))
 
 -- ---- next
 
@@ -146,9 +156,12 @@ module _ (z : Sizes) (j : JitterBuffer) (fs : List Float) (us : List ℕ) (long 
 
 -- ---- the loop from the last pair on
 
-pub unzero : (n : ℕ) → (n ≡ 0 → ⊥) → 1 ≤ n
-unzero zero ne = absurd (ne refl)
-unzero (suc n) ne = omega arith
+-- the last sequence alone, or none, rises
+pub rising_last : (us : List ℕ) (n : ℕ) → true ≡ strictly_rising (words_from (n - 1) (n - (n - 1)) us)
+rising_last us zero = rising_none us 0
+rising_last us (suc n) =
+    let one : suc n - (suc n - 1) ≡ 1 = omega arith in
+    rw one (rising_one us (suc n - 1))
 
 pair_here : (us : List ℕ) (n i : ℕ) → 0 < i → i < n
     → strictly_rising (words_from (i - 1) (n - (i - 1)) us) ≡ ltb (get_or us (i - 1) 0) (get_or us i 0) && strictly_rising (words_from i (n - i) us)

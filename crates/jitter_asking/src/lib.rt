@@ -10,23 +10,18 @@ ghost use Rattle.jitter_asking.specs.Promises.{StartTold, HeldTold};
 
 use calls::Sizes;
 use jitter_buffer::JitterBuffer;
+use sizes::AllowedSizes;
 
-// Whether the first n sequences are in strictly rising order: each pair, from the last one on. The loop has no early way
+// Whether the sequences are in strictly rising order: each pair, from the last one on. The loop has no early way
 // out, so that many pairs are compared at once.
-fn rises(us: &[u32], n: usize) -> bool
-    requires { n ≤ length us.now }
-    ensures { result ≡ strictly_rising (words_from 0 n us.now) }
+fn rises(us: &[u32]) -> bool
+    ensures { result ≡ strictly_rising (words_from 0 (length us.now) us.now) }
 {
-    if n == 0 {
-        return true;
-    }
     let mut rising = true;
-    let mut i = n - 1;
-    while 0 < i {
+    for i in (1..us.len()).rev() {
         if us[i] <= us[i - 1] {
             rising = false;
         }
-        i -= 1;
     }
     rising
 }
@@ -73,10 +68,10 @@ pub fn could_be_held(j: JitterBuffer, z: Sizes, us: &[u32], calls: u64) -> bool
     ensures { HeldTold z j us.now calls result }
 {
     // No single `&&`: each question may be asked only where those before it were answered with yes.
-    if !sizes::allowed(z) {
+    let Some(sizes) = AllowedSizes::of(z) else {
         return false;
-    }
-    let most = sizes::most_waiting(z);
+    };
+    let most = sizes.most_waiting();
     if most != us.len() {
         return false;
     }
@@ -84,7 +79,7 @@ pub fn could_be_held(j: JitterBuffer, z: Sizes, us: &[u32], calls: u64) -> bool
     if most < pending_len {
         return false;
     }
-    if !rises(us, pending_len) {
+    if !rises(&us[..pending_len]) {
         return false;
     }
     if z.target + z.packet <= j.playout_len {

@@ -13,6 +13,7 @@ ghost use Rattle.jitter_pop.specs.Promises.{CanHandOut, HandedOut, CanPlay, Play
 
 use calls::Sizes;
 use jitter_buffer::JitterBuffer;
+use sizes::AllowedSizes;
 
 // What a play leaves and answers: the samples that were queued, those dropped before them, and those
 // that were made up behind them.
@@ -48,7 +49,7 @@ fn hand_out(z: Sizes, j: JitterBuffer, fs: &mut [f32], out: &mut [f32], dropped:
     let taken = n.min(left);
     let short = n - taken;
     let rest = left - taken;
-    let offsets = sizes::section_offsets(z);
+    let offsets = AllowedSizes { sizes: z }.section_offsets();
     let queue = offsets.queue;
     let from = queue + dropped;
     let after = from + taken;

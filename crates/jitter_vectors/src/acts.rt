@@ -1,5 +1,6 @@
 // The calls that are made: a datagram, a play or a reset, on so many places of the areas.
-use calls::{Refusal, Side};
+use calls::{Estimates, Refusal, Side, Sizes};
+use receiver_setup::setup;
 use receiver_state::{Answer, Answered, Receiver};
 
 // What a header says, but for its timestamp.
@@ -26,6 +27,30 @@ pub struct Lent {
     pub words: usize,
 }
 
+// More places than any receiver here needs.
+#[derive(Clone, Copy)]
+pub struct Areas {
+    pub fs: [f32; 1024],
+    pub us: [u32; 64],
+}
+
+// A receiver on its areas, and the channel that is called.
+#[derive(Clone, Copy)]
+pub struct Player {
+    pub receiver: Receiver,
+    pub side: Side,
+    pub areas: Areas,
+    pub lent: Lent,
+}
+
+fn no_estimates() -> Estimates {
+    Estimates {
+        top: 0,
+        floor: 0,
+        range: 0,
+    }
+}
+
 // A channel's sound, in version 1.
 pub fn sound(side: Side, sequence: u32) -> Header {
     let stream_type = match side {
@@ -50,11 +75,9 @@ fn write_header(bytes: &mut [u8; 272], h: Header) {
 
 // The samples first, first + 1 and so on, in 16 bits, two bytes to each.
 fn count_up(bytes: &mut [u8; 272], first: u64) {
-    let mut sample = first;
     for i in 0..128 {
-        bytes[16 + 2 * i] = (sample % 256) as u8;
-        bytes[17 + 2 * i] = (sample / 256 % 256) as u8;
-        sample = sample.wrapping_add(1);
+        let sample = (first.wrapping_add(i as u64) % 65536) as u16;
+        bytes[16 + 2 * i..18 + 2 * i].copy_from_slice(&sample.to_le_bytes());
     }
 }
 
@@ -66,68 +89,48 @@ fn datagram(h: Header, first: u64) -> [u8; 272] {
     bytes
 }
 
-// There is no room for the call. No call is refused by BadWord.
-fn no_call(receiver: Receiver) -> Answered {
-    Answered {
-        receiver,
-        answer: Answer::Refused(Refusal::BadWord),
-    }
-}
-
-// The first n bytes.
-fn hand_over(r: Receiver, fs: &mut [f32], us: &mut [u32], bytes: &[u8], n: usize) -> Answered {
-    let Some(first) = bytes.get(..n) else {
-        return no_call(r);
-    };
-    receiver_datagrams::handle_media_packet(r, fs, us, first)
-}
-
-// Into the first n places.
-fn play(
-    r: Receiver,
-    side: Side,
-    fs: &mut [f32],
-    us: &mut [u32],
-    out: &mut [f32],
-    n: usize,
-) -> Answered {
-    if n <= out.len() {
-        return receiver::sound::play(r, fs, us, side, &mut out[0..n]);
-    }
-    no_call(r)
-}
-
-fn make_call(
-    r: Receiver,
-    side: Side,
-    fs: &mut [f32],
-    us: &mut [u32],
-    a: Act,
-    out: &mut [f32],
-) -> Answered {
-    match a {
-        Act::Datagram(h, first, n) => hand_over(r, fs, us, &datagram(h, first), n),
-        Act::Play(n) => play(r, side, fs, us, out, n),
-        Act::Reset => receiver::settings::reset(r, fs, us, side),
-    }
-}
-
-// The call on so many places. The output is written by a play alone.
-pub fn call_on(
-    r: Receiver,
-    side: Side,
-    fs: &mut [f32],
-    us: &mut [u32],
-    lent: Lent,
-    a: Act,
-    out: &mut [f32],
-) -> Answered {
-    let n = lent.floats;
-    let m = lent.words;
-    if n <= fs.len() {
-        if m <= us.len() {
-            return make_call(r, side, &mut fs[0..n], &mut us[0..m], a, out);
+impl Areas {
+    // Whatever the free places hold.
+    pub fn new() -> Areas {
+        Areas {
+            fs: [2.0; 1024],
+            us: [7; 64],
         }
     }
-    no_call(r)
+
+    // Setup on so many places. No setup is refused by BadWord: it is what is longer than there is.
+    pub fn set_up(&mut self, z: Sizes, lent: Lent) -> Result<Receiver, Refusal> {
+        let fs = self.fs.get(..lent.floats).ok_or(Refusal::BadWord)?;
+        let us = self.us.get_mut(..lent.words).ok_or(Refusal::BadWord)?;
+        setup(z, no_estimates(), no_estimates(), fs, us)
+    }
+}
+
+impl Player {
+    // None: there is no room for the call.
+    fn answered(&mut self, a: Act, out: &mut [f32]) -> Option<Answered> {
+        let r = self.receiver;
+        let side = self.side;
+        let fs = self.areas.fs.get_mut(..self.lent.floats)?;
+        let us = self.areas.us.get_mut(..self.lent.words)?;
+        match a {
+            Act::Datagram(h, first, n) => {
+                let bytes = datagram(h, first);
+                let part = bytes.get(..n)?;
+                Some(receiver_datagrams::handle_media_packet(r, fs, us, part))
+            }
+            Act::Play(n) => {
+                let part = out.get_mut(..n)?;
+                Some(receiver::sound::play(r, fs, us, side, part))
+            }
+            Act::Reset => Some(receiver::settings::reset(r, fs, us, side)),
+        }
+    }
+
+    // The call on what is lent. The output is written by a play alone. No call is refused by BadWord: it is what has no room.
+    pub fn call(&mut self, a: Act, out: &mut [f32]) -> Result<Answer, Refusal> {
+        let v = self.answered(a, out).ok_or(Refusal::BadWord)?;
+        self.receiver = v.receiver;
+        v.answer
+    }
 }

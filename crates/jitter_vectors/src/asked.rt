@@ -1,13 +1,12 @@
 // A receiver that plays, one change to it or to what it is lent, and a call: what the call answers, and after a refusal
 // that nothing else is changed.
-use crate::acts::{Act, Lent, call_on, sound};
-use crate::compare::{Difference, jitter_of, numbers, same};
-use crate::session::{estimates, refusal, refused_by, setup_on, sizes};
-use crate::tally::{Failed, ended_as, in_turn};
+use crate::acts::{Act, Areas, Lent, Player, sound};
+use crate::compare::{Difference, numbers, refused_alike, same};
+use crate::session::sizes;
+use crate::tally::{Failed, begun, ended_as, in_turn};
 use calls::{Refusal, Side, Sizes};
-use jitter_buffer::JitterBuffer;
-use receiver_setup::setup;
-use receiver_state::{Answered, Receiver};
+use receiver_state::sides::{channel_of, with_channel};
+use receiver_state::{Answer, Receiver};
 
 #[derive(Clone, Copy)]
 pub enum Change {
@@ -21,13 +20,16 @@ pub enum Change {
     Second(u32),
 }
 
+// What an accepted call changes.
 #[derive(Clone, Copy)]
-pub enum Expect {
-    Refused(Refusal),
-    Accepted,
-    // Accepted, and nothing is changed but the number of calls and of valid headers.
-    Counted,
+pub enum Changes {
+    Any,
+    // Nothing but the number of calls and of valid headers.
+    Counts,
 }
+
+// What is expected of a call, or the question that must refuse it.
+pub type Expect = Result<Changes, Refusal>;
 
 // What a receiver of 4, 8 and 16 with one bin and pictures of one pixel needs.
 pub fn exact() -> Lent {
@@ -37,67 +39,37 @@ pub fn exact() -> Lent {
     }
 }
 
+// No call is lent more.
+fn most() -> Lent {
+    Lent {
+        floats: 64,
+        words: 11,
+    }
+}
+
 // A packet of four samples.
 fn packet(side: Side, sequence: u32) -> Act {
     Act::Datagram(sound(side, sequence), 1, 24)
 }
 
-// 10 and 11 are queued, 12 and 13 wait.
-fn four_pushed(
-    begun: Receiver,
-    side: Side,
-    fs: &mut [f32; 64],
-    us: &mut [u32; 11],
-    out: &mut [f32; 65536],
-) -> Receiver {
-    let mut r = begun;
-    for sequence in 10..14 {
-        let v = call_on(r, side, fs, us, exact(), packet(side, sequence), out);
-        r = v.receiver;
-    }
-    r
-}
-
-fn changed_sound(j: JitterBuffer, change: Change) -> JitterBuffer {
-    let mut v = j;
-    match change {
-        Change::Run(n) => v.consecutive_conceals = n,
-        Change::Queue(n) => v.playout_len = n,
-        Change::Waiting(n) => v.pending_len = n,
-        _ => {}
-    }
-    v
-}
-
-fn with_sound(r: Receiver, side: Side, jitter: JitterBuffer) -> Receiver {
-    let mut v = r;
-    match side {
-        Side::A => {
-            let mut a = r.a;
-            a.jitter = jitter;
-            v.a = a;
-        }
-        Side::B => {
-            let mut b = r.b;
-            b.jitter = jitter;
-            v.b = b;
-        }
-    }
-    v
-}
-
 fn changed(r: Receiver, side: Side, change: Change) -> Receiver {
-    let mut v = with_sound(r, side, changed_sound(jitter_of(r, side), change));
+    let mut v = r;
+    let mut channel = channel_of(r, side);
+    let mut jitter = channel.jitter;
     match change {
         Change::Sizes(z) => v.sizes = z,
         Change::Calls(n) => v.calls = n,
-        _ => {}
+        Change::Run(n) => jitter.consecutive_conceals = n,
+        Change::Queue(n) => jitter.playout_len = n,
+        Change::Waiting(n) => jitter.pending_len = n,
+        Change::Second(_) => {}
     }
-    v
+    channel.jitter = jitter;
+    with_channel(v, side, channel)
 }
 
 // Channel B's words begin at 5: four places of sequences and a picture of one pixel are A's.
-fn change_word(us: &mut [u32; 11], side: Side, change: Change) {
+fn change_word(us: &mut [u32; 64], side: Side, change: Change) {
     let Change::Second(sequence) = change else {
         return;
     };
@@ -126,8 +98,10 @@ fn head(r: Receiver) -> [u64; 18] {
     let z = r.sizes;
     let audio = r.audio;
     let rows = r.waterfall;
-    let a = jitter_of(r, Side::A);
-    let b = jitter_of(r, Side::B);
+    let of_a = channel_of(r, Side::A);
+    let of_b = channel_of(r, Side::B);
+    let a = of_a.jitter;
+    let b = of_b.jitter;
     [
         z.packet as u64,
         z.target as u64,
@@ -157,7 +131,7 @@ fn put(all: &mut [u64; 119], from: usize, words: &[u64]) {
     }
 }
 
-fn float_words(fs: &[f32; 64]) -> [u64; 64] {
+fn float_words(fs: &[f32]) -> [u64; 64] {
     let mut all = [0u64; 64];
     for (place, x) in all.iter_mut().zip(fs) {
         *place = u64::from(floats::to_bits(*x));
@@ -165,7 +139,7 @@ fn float_words(fs: &[f32; 64]) -> [u64; 64] {
     all
 }
 
-fn wide_words(us: &[u32; 11]) -> [u64; 11] {
+fn wide_words(us: &[u32]) -> [u64; 11] {
     let mut all = [0u64; 11];
     for (place, word) in all.iter_mut().zip(us) {
         *place = u64::from(*word);
@@ -173,35 +147,28 @@ fn wide_words(us: &[u32; 11]) -> [u64; 11] {
     all
 }
 
-// The receiver but for what it shows and the clock, and every place of both areas.
-fn everything(r: Receiver, fs: &[f32; 64], us: &[u32; 11]) -> [u64; 119] {
+// The receiver but for what it shows and the clock, and every place of both areas that a call is lent.
+fn everything(p: &Player) -> [u64; 119] {
+    let r = p.receiver;
     let mut all = [0u64; 119];
     put(&mut all, 0, &head(r));
     put(&mut all, 18, &numbers(r, Side::A));
     put(&mut all, 31, &numbers(r, Side::B));
-    put(&mut all, 44, &float_words(fs));
-    put(&mut all, 108, &wide_words(us));
+    put(&mut all, 44, &float_words(&p.areas.fs));
+    put(&mut all, 108, &wide_words(&p.areas.us));
     all
-}
-
-// The number of the question that must refuse; 0 where the call must be accepted.
-fn number_of(expect: Expect) -> u64 {
-    match expect {
-        Expect::Refused(why) => u64::from(why.number()),
-        _ => 0,
-    }
 }
 
 // What a call must leave. Of what an accepted call changes its number is compared here; the sessions have the rest.
 fn left_by(before: [u64; 119], after: [u64; 119], expect: Expect) -> [u64; 119] {
     let mut left = before;
     match expect {
-        Expect::Refused(_) => {}
-        Expect::Counted => {
+        Err(_) => {}
+        Ok(Changes::Counts) => {
             left[6] = before[6].wrapping_add(1);
             left[7] = before[7].wrapping_add(1);
         }
-        Expect::Accepted => {
+        Ok(Changes::Any) => {
             left = after;
             left[6] = before[6].wrapping_add(1);
         }
@@ -213,68 +180,36 @@ fn left_by(before: [u64; 119], after: [u64; 119], expect: Expect) -> [u64; 119] 
 fn judged(
     before: [u64; 119],
     after: [u64; 119],
-    refused: u64,
+    answer: Result<Answer, Refusal>,
     expect: Expect,
 ) -> Result<(), Difference> {
-    same(&[refused], &[number_of(expect)], 17)?;
+    refused_alike(answer, expect)?;
     let left = left_by(before, after, expect);
-    same(&after, &left, 20)
+    same(&after, &left, "left")
 }
 
-fn judged_after(
-    before: [u64; 119],
-    v: Answered,
-    fs: &[f32; 64],
-    us: &[u32; 11],
-    expect: Expect,
-) -> Result<(), Difference> {
-    let r = v.receiver;
-    let answer = v.answer;
-    judged(before, everything(r, fs, us), refusal(answer), expect)
-}
-
-fn call_changed(
-    r: Receiver,
-    side: Side,
-    fs: &mut [f32; 64],
-    us: &mut [u32; 11],
-    lent: Lent,
-    a: Act,
-    expect: Expect,
-    out: &mut [f32; 65536],
-) -> Result<(), Difference> {
-    let before = everything(r, fs, us);
-    let v = call_on(r, side, fs, us, lent, a, out);
-    judged_after(before, v, fs, us, expect)
-}
-
-// A call of a channel that plays. Its numbers before the change are those of the fourth call of the session `duplicate of
-// a full buffer`.
+// A call of a channel that plays: 10 and 11 are queued, 12 and 13 wait. Its numbers before the change are those of the
+// fourth call of the session `duplicate of a full buffer`.
 fn call_playing(
-    begun: Receiver,
-    side: Side,
-    fs: &mut [f32; 64],
-    us: &mut [u32; 11],
+    p: &mut Player,
     change: Change,
     lent: Lent,
     a: Act,
     expect: Expect,
 ) -> Result<(), Difference> {
+    let side = p.side;
     let mut out = [3.0f32; 65536];
-    let r = four_pushed(begun, side, fs, us, &mut out);
+    for sequence in 10..14 {
+        let _ = p.call(packet(side, sequence), &mut out);
+    }
     let playing = [4, 4, 0, 0, 0, 0, 0, 0, 16, 16, 1, 12, 0];
-    same(&numbers(r, side), &playing, 20)?;
-    change_word(us, side, change);
-    call_changed(
-        changed(r, side, change),
-        side,
-        fs,
-        us,
-        lent,
-        a,
-        expect,
-        &mut out,
-    )
+    same(&numbers(p.receiver, side), &playing, "left")?;
+    change_word(&mut p.areas.us, side, change);
+    p.receiver = changed(p.receiver, side, change);
+    p.lent = lent;
+    let before = everything(p);
+    let answer = p.call(a, &mut out);
+    judged(before, everything(p), answer, expect)
 }
 
 // One call of a receiver of 4, 8 and 16.
@@ -285,16 +220,16 @@ pub fn called(
     a: Act,
     expect: Expect,
 ) -> Result<u64, Failed> {
-    let mut fs = [2.0f32; 64];
-    let mut us = [7u32; 11];
-    match setup(sizes(4, 8, 16), estimates(), estimates(), &fs, &mut us) {
-        Err(why) => ended_as(side, 0, Err(refused_by(u64::from(why.number())))),
-        Ok(r) => {
-            let act = on_side(a, side);
-            let done = call_playing(r, side, &mut fs, &mut us, change, lent, act, expect);
-            ended_as(side, 1, done)
-        }
-    }
+    let mut areas = Areas::new();
+    let receiver = begun(side, areas.set_up(sizes(4, 8, 16), most()))?;
+    let mut p = Player {
+        receiver,
+        side,
+        areas,
+        lent: exact(),
+    };
+    let act = on_side(a, side);
+    ended_as(side, 1, call_playing(&mut p, change, lent, act, expect))
 }
 
 // A datagram, a play and a reset, each of a channel that plays.
@@ -305,36 +240,28 @@ pub fn all_called(side: Side, change: Change, lent: Lent, expect: Expect) -> Res
     in_turn(first, in_turn(second, third))
 }
 
-// The number of the question that refused a setup; 0 where it was accepted.
-fn setup_refusal(begun: Result<Receiver, Refusal>) -> u64 {
-    match begun {
-        Err(why) => u64::from(why.number()),
-        Ok(_) => 0,
-    }
-}
-
 // A setup that is refused leaves the words; an accepted one writes the two pictures, of one pixel each.
 fn words_left(expect: Expect) -> [u64; 11] {
     let mut left = [7u64; 11];
-    match expect {
-        Expect::Refused(_) => {}
-        _ => {
-            left[4] = 0;
-            left[9] = 0;
-        }
+    if expect.is_ok() {
+        left[4] = 0;
+        left[9] = 0;
     }
     left
 }
 
 // What a setup answered, and the words that it left.
-fn set_up_as(found: u64, us: &[u32; 11], expect: Expect) -> Result<(), Difference> {
-    same(&[found], &[number_of(expect)], 17)?;
-    same(&wide_words(us), &words_left(expect), 20)
+fn set_up_as(
+    answer: Result<Receiver, Refusal>,
+    us: &[u32],
+    expect: Expect,
+) -> Result<(), Difference> {
+    refused_alike(answer, expect)?;
+    same(&wide_words(us), &words_left(expect), "left")
 }
 
 pub fn set_up(z: Sizes, lent: Lent, expect: Expect) -> Result<u64, Failed> {
-    let fs = [2.0f32; 64];
-    let mut us = [7u32; 11];
-    let found = setup_refusal(setup_on(z, &fs, &mut us, lent));
-    ended_as(Side::A, 1, set_up_as(found, &us, expect))
+    let mut areas = Areas::new();
+    let answer = areas.set_up(z, lent);
+    ended_as(Side::A, 1, set_up_as(answer, &areas.us, expect))
 }

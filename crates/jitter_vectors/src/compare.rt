@@ -1,16 +1,34 @@
-// What was found after a call, against what a session's text expects, and against what was there before.
-use crate::text::{decimal, pattern};
+// What was found after a call, against what a session's line expects, and against what was there before.
 use calls::{Refusal, Side};
-use jitter_buffer::JitterBuffer;
 use receiver_state::Receiver;
 use receiver_state::readings::buffered_samples;
+use receiver_state::sides::channel_of;
 
-// What is not as expected: its number in the list of names (see tally), its place where it is one of many, and
-// both values.
+// The thirteen numbers of a channel's sound, in the order of a line.
+pub const SOUND: [&str; 13] = [
+    "received",
+    "inserted",
+    "concealed",
+    "late",
+    "overflow",
+    "invalid size",
+    "resyncs",
+    "filled",
+    "largest",
+    "buffered",
+    "started",
+    "next",
+    "run",
+];
+
+// The three numbers that a play answers.
+pub const PLAY: [&str; 3] = ["taken", "dropped", "short"];
+
+// What is not as expected: its name, its place where it is one of many, and both values.
 #[derive(Clone, Copy)]
 pub struct Difference {
-    pub what: usize,
-    pub place: usize,
+    pub what: &'static str,
+    pub place: Option<usize>,
     pub found: u64,
     pub expected: u64,
 }
@@ -28,22 +46,47 @@ fn amount_word(a: Result<usize, Refusal>) -> u64 {
     }
 }
 
-pub fn jitter_of(r: Receiver, side: Side) -> JitterBuffer {
-    match side {
-        Side::A => {
-            let a = r.a;
-            a.jitter
-        }
-        Side::B => {
-            let b = r.b;
-            b.jitter
-        }
+// The number of the question that refuses; 0 where nothing is refused.
+fn question(refusal: Option<Refusal>) -> u64 {
+    refusal.map_or(0, |why| u64::from(why.number()))
+}
+
+fn refused(found: u64, expected: u64) -> Difference {
+    Difference {
+        what: "refused by",
+        place: Some(0),
+        found,
+        expected,
     }
 }
 
-// The thirteen numbers of a channel's sound, in the order of a line.
+// A line that is no call shows as one that question 99 refuses.
+pub fn no_call() -> Difference {
+    refused(99, 0)
+}
+
+// A call's refusal where it must be accepted. None: it answers what another call does.
+pub fn refused_by(refusal: Option<Refusal>) -> Difference {
+    refused(question(refusal), 0)
+}
+
+// A call's answer against what is expected of it: both accepted, or both refused by one question.
+pub fn refused_alike<T: Drop, E: Drop>(
+    answer: Result<T, Refusal>,
+    expect: Result<E, Refusal>,
+) -> Result<(), Difference> {
+    let found = answer.err();
+    let expected = expect.err();
+    if found == expected {
+        return Ok(());
+    }
+    Err(refused(question(found), question(expected)))
+}
+
+// The numbers of a channel's sound.
 pub fn numbers(r: Receiver, side: Side) -> [u64; 13] {
-    let j = jitter_of(r, side);
+    let channel = channel_of(r, side);
+    let j = channel.jitter;
     let amount = buffered_samples(r, side);
     let next = j.next_sequence;
     [
@@ -63,60 +106,79 @@ pub fn numbers(r: Receiver, side: Side) -> [u64; 13] {
     ]
 }
 
-// Numbers against those of the text, the first one under the name `what`. The answer is the place behind the last.
-pub fn agree(found: &[u64], what: usize, text: &[u8], from: usize) -> Result<usize, Difference> {
-    let mut at = from;
-    for (i, number) in found.iter().enumerate() {
-        let n = decimal(text, at);
-        if n.value != *number {
-            return Err(Difference {
-                what: what.wrapping_add(i),
-                place: 0,
-                found: *number,
-                expected: n.value,
-            });
-        }
-        at = n.at;
-    }
-    Ok(at)
+// The first word of a line's rest, and what is behind it. There is no word of no letters.
+fn first_word(rest: &str) -> (&str, &str) {
+    rest.split_once(' ').unwrap_or((rest, ""))
 }
 
-// Samples against those of the text, bit for bit. The answer is the place behind the last.
-pub fn samples_agree(out: &[f32], text: &[u8], from: usize) -> Result<usize, Difference> {
-    let mut at = from;
-    for (place, sample) in out.iter().enumerate() {
-        let n = pattern(text, at);
-        let bits = u64::from(floats::to_bits(*sample));
-        if n.value != bits {
+// Numbers, each under its name, against those of a line. The answer is what is behind the last.
+pub fn agree<'a>(
+    found: &[u64],
+    names: &[&'static str],
+    line: &'a str,
+) -> Result<&'a str, Difference> {
+    let mut rest = line;
+    for (i, number) in found.iter().enumerate() {
+        let (word, behind) = first_word(rest);
+        let expected = word.parse().ok();
+        if expected != Some(*number) {
             return Err(Difference {
-                what: 16,
-                place,
-                found: bits,
-                expected: n.value,
+                what: names.get(i).copied().unwrap_or("number"),
+                place: None,
+                found: *number,
+                expected: expected.unwrap_or(0),
             });
         }
-        at = n.at;
+        rest = behind;
     }
-    Ok(at)
+    Ok(rest)
+}
+
+// Samples against those of a line, bit for bit. The answer is what is behind the last.
+pub fn samples_agree<'a>(out: &[f32], line: &'a str) -> Result<&'a str, Difference> {
+    let mut rest = line;
+    for (place, sample) in out.iter().enumerate() {
+        let (word, behind) = first_word(rest);
+        let found = floats::to_bits(*sample);
+        let expected = u32::from_str_radix(word, 16).ok();
+        if expected != Some(found) {
+            return Err(Difference {
+                what: "sample",
+                place: Some(place),
+                found: u64::from(found),
+                expected: u64::from(expected.unwrap_or(0)),
+            });
+        }
+        rest = behind;
+    }
+    Ok(rest)
+}
+
+// No word is behind the last. A line with more is no call's.
+pub fn ends(rest: &str) -> Result<(), Difference> {
+    if rest.is_empty() {
+        return Ok(());
+    }
+    Err(no_call())
 }
 
 // Two lists of numbers of one length, under the name `what`: the first difference.
-pub fn same(found: &[u64], expected: &[u64], what: usize) -> Result<(), Difference> {
+pub fn same(found: &[u64], expected: &[u64], what: &'static str) -> Result<(), Difference> {
     if found.len() != expected.len() {
         return Err(Difference {
             what,
-            place: found.len(),
+            place: Some(found.len()),
             found: found.len() as u64,
             expected: expected.len() as u64,
         });
     }
-    for (place, number) in found.iter().enumerate() {
-        if *number != expected[place] {
+    for (place, (found, expected)) in found.iter().zip(expected).enumerate() {
+        if found != expected {
             return Err(Difference {
                 what,
-                place,
-                found: *number,
-                expected: expected[place],
+                place: Some(place),
+                found: *found,
+                expected: *expected,
             });
         }
     }

@@ -11,9 +11,10 @@ mod refused;
 mod session;
 mod sessions;
 mod tally;
-mod text;
 
-fn main() {
-    let t = sessions::all(tally::fresh());
-    tally::sum_up(refused::all(t));
+fn main(rt: HostRuntime) {
+    let mut t = tally::Tally::new(rt);
+    sessions::all(&mut t);
+    refused::all(&mut t);
+    t.sum_up();
 }

@@ -1,12 +1,15 @@
-// A session's line, and how many sessions and calls were run.
-use crate::compare::Difference;
-use calls::Side;
+// A session's line, and how many sessions and calls were run. A line that cannot be written is left out, and changes no count.
+use crate::compare::{Difference, refused_by};
+use calls::{Refusal, Side};
+use receiver_state::Receiver;
+use std::fmt;
 
 #[derive(Clone, Copy)]
 pub struct Tally {
-    pub sessions: u64,
-    pub equal: u64,
-    pub calls: u64,
+    rt: HostRuntime,
+    sessions: u64,
+    equal: u64,
+    calls: u64,
 }
 
 // The channel and its call that differs.
@@ -29,6 +32,15 @@ pub fn ended_as(side: Side, n: u64, last: Result<(), Difference>) -> Result<u64,
     }
 }
 
+// The receiver of a setup that must be accepted.
+pub fn begun(side: Side, answer: Result<Receiver, Refusal>) -> Result<Receiver, Failed> {
+    answer.map_err(|why| Failed {
+        side,
+        call: 0,
+        difference: refused_by(Some(why)),
+    })
+}
+
 // The calls of both, or the first difference.
 pub fn in_turn(first: Result<u64, Failed>, second: Result<u64, Failed>) -> Result<u64, Failed> {
     let m = first?;
@@ -36,96 +48,52 @@ pub fn in_turn(first: Result<u64, Failed>, second: Result<u64, Failed>) -> Resul
     Ok(m.wrapping_add(n))
 }
 
-pub fn fresh() -> Tally {
-    Tally {
-        sessions: 0,
-        equal: 0,
-        calls: 0,
+impl fmt::Display for Failed {
+    fn fmt<W: fmt::Write>(&self, f: &mut fmt::Formatter<W>) -> fmt::Result {
+        // By hand: no other place of this program writes a side, and `Side` has no letter in calls.
+        let channel = match self.side {
+            Side::A => "A",
+            Side::B => "B",
+        };
+        let d = self.difference;
+        write!(f, "{channel} at call {},{:>12}", self.call, d.what)?;
+        if let Some(place) = d.place {
+            write!(f, " {place}")?;
+        }
+        write!(f, ": {}, expected {}", d.found, d.expected)
     }
 }
 
-fn write(text: &[u8]) {
-    io::write_all(1, text);
-}
-
-fn number(n: u64) {
-    io::print_decimal(1, n);
-}
-
-// The name at a place of the list, 12 bytes to each.
-fn name_in(names: &[u8], what: usize) {
-    if what < names.len() / 12 {
-        let from = 12 * what;
-        let to = from + 12;
-        write(&names[from..to]);
+impl Tally {
+    pub fn new(rt: HostRuntime) -> Tally {
+        Tally {
+            rt,
+            sessions: 0,
+            equal: 0,
+            calls: 0,
+        }
     }
-}
 
-// The names of a line's numbers: the thirteen of a buffer, the three of a play, a sample, the question that refused the
-// call, the other channel's numbers, the number of accepted calls, and what a call must leave.
-fn name(what: usize) {
-    name_in(
-        b"    received    inserted   concealed        late    overflowinvalid size     resyncs      filled     largest    buffered     started        next         run       taken     dropped       short      sample  refused by       other       calls        left",
-        what,
-    );
-}
-
-fn channel(side: Side) {
-    match side {
-        Side::A => write(b"A"),
-        Side::B => write(b"B"),
-    }
-}
-
-fn differs(failed: Failed) {
-    let d = failed.difference;
-    channel(failed.side);
-    write(b" at call ");
-    number(failed.call);
-    write(b",");
-    name(d.what);
-    if 16 <= d.what {
-        write(b" ");
-        number(d.place as u64);
-    }
-    write(b": ");
-    number(d.found);
-    write(b", expected ");
-    number(d.expected);
-    write(b"\n");
-}
-
-// Ends a session's line.
-pub fn tallied(t: Tally, ended: Result<u64, Failed>) -> Tally {
-    let sessions = t.sessions.wrapping_add(1);
-    match ended {
-        Ok(calls) => {
-            write(b": ok, ");
-            number(calls);
-            write(b" calls\n");
-            Tally {
-                sessions,
-                equal: t.equal.wrapping_add(1),
-                calls: t.calls.wrapping_add(calls),
+    // A session's line.
+    pub fn count(&mut self, name: &str, ended: Result<u64, Failed>) {
+        self.sessions = self.sessions.wrapping_add(1);
+        let _ = match ended {
+            Ok(calls) => {
+                self.equal = self.equal.wrapping_add(1);
+                self.calls = self.calls.wrapping_add(calls);
+                println!(self.rt; "{name}: ok, {calls} calls")
             }
-        }
-        Err(failed) => {
-            write(b": DIFFERS on ");
-            differs(failed);
-            Tally { sessions, ..t }
-        }
+            Err(failed) => println!(self.rt; "{name}: DIFFERS on {failed}"),
+        };
     }
-}
 
-pub fn begun(name: &[u8]) {
-    write(name);
-}
-
-pub fn sum_up(t: Tally) {
-    number(t.equal);
-    write(b" of ");
-    number(t.sessions);
-    write(b" sessions ok, ");
-    number(t.calls);
-    write(b" calls\n");
+    pub fn sum_up(self) {
+        let Tally {
+            rt,
+            sessions,
+            equal,
+            calls,
+        } = self;
+        let _ = println!(rt; "{equal} of {sessions} sessions ok, {calls} calls");
+    }
 }

@@ -5,7 +5,7 @@ use mathlib.Core.Bool.{true≢false}
 use mathlib.Core.Option as maybe
 use mathlib.Core.List.{List, [], ◌∷◌, ◌++◌, map, append_assoc}
 use native.Mathlib.Omega.{arith}
-use lib.ListN.{length, take, drop, set, get_or, length-append, length-set, take-append-drop}
+use lib.ListN.{length, take, drop, set, get_or, length-append, take-append-drop}
 use lib.IntN.{ℤ}
 use lib.Ieee.{Float}
 use mir.Syntax.{w64}
@@ -17,10 +17,10 @@ use Rattle.model.specs.JitterBuffer.{Counters, Played}
 use Rattle.model.specs.Clock as Clock
 use Rattle.model.specs.Replay.{decimal, hex_bits, line, rest, or_dash, side_letter, play_line, row_line, refused_line, bad_tape_line, channel_line, clock_line}
 use Rattle.std.proofs.Common.{Option, Some, None}
-use Rattle.text.proofs.FittedLaws.{Fitted, fitted_behind}
+use Rattle.text.proofs.FittedLaws.{Fitted}
 use Rattle.text.proofs.WrittenLaws.{byte_placed}
 use Rattle.lines.specs.Lines.{spaced, head, offset_word, round_trip_word, clock_text, Piece}
-use Rattle.lines.proofs.WordLaws.{rest_is_spaced, spaced_append, numbers_few, fitted_length}
+use Rattle.lines.proofs.WordLaws.{rest_is_spaced, spaced_append, numbers_few}
 
 -- ---- a piece
 
@@ -53,71 +53,29 @@ module _ (letter : ℕ) (numbers : List ℕ) (wide : (i : ℕ) → Fits w64 (get
   abbrev text : List ℕ
   text = line letter (map decimal numbers)
 
-  text_is : text ≡ (letter ∷ spaced (map decimal numbers)) ++ (10 ∷ [])
+  pub text_is : text ≡ (letter ∷ spaced (map decimal numbers)) ++ (10 ∷ [])
   unfolding line
   text_is = ap (λ (xs : List ℕ). letter ∷ xs) (rest_is_spaced (map decimal numbers))
 
   pub line_few : length text ≤ 2 + 21 * length numbers
   line_few = rw (text_is, length-append) (omega (arith, numbers_few numbers wide))
 
-  -- the words end before the last place
-  pub words_inside : {end : ℕ} (entry : List ℕ) {after : List ℕ} → 2 + 21 * length numbers ≤ length entry → Fitted (spaced (map decimal numbers)) 1 (set entry 0 letter) after end
-      → end < length after
-  words_inside entry room words =
-      omega (arith, words.place, numbers_few numbers wide, fitted_length words, length-set entry 0 letter)
-
-  pub line_fitted : {end : ℕ} {entry after : List ℕ} → 2 ≤ length entry → Fitted (spaced (map decimal numbers)) 1 (set entry 0 letter) after end → end < length after
-      → Fitted text 0 entry (set after end 10) (end + 1)
-  line_fitted {end} {entry} {after} room words inside =
-      rw text_is (fitted_behind (fitted_behind (byte_fitted letter 0 entry (omega arith)) words) (byte_fitted 10 end after inside))
-
   -- ---- a letter, a channel and numbers
 
   module _ (side : Side) where
-    three_is : head letter side numbers ≡ (letter ∷ 32 ∷ side_letter side ∷ []) ++ spaced (map decimal numbers)
+    pub head_is : head letter side numbers ≡ (letter ∷ 32 ∷ side_letter side ∷ []) ++ spaced (map decimal numbers)
     unfolding head spaced
-    three_is = refl
+    head_is = refl
 
     pub head_few : length (head letter side numbers) ≤ 3 + 21 * length numbers
-    head_few = rw three_is (omega (arith, numbers_few numbers wide))
-
-    pub head_fitted : {end : ℕ} (entry : List ℕ) {after : List ℕ} → 3 ≤ length entry
-        → Fitted (spaced (map decimal numbers)) 3 (set (set (set entry 0 letter) 1 32) 2 (side_letter side)) after end → Fitted (head letter side numbers) 0 entry after end
-    head_fitted entry room words =
-        let first = byte_fitted letter 0 entry (omega arith) in
-        let second = byte_fitted 32 1 (set entry 0 letter) (simp length-set (omega arith)) in
-        let third = byte_fitted (side_letter side) 2 (set (set entry 0 letter) 1 32) (simp length-set (omega arith)) in
-        rw three_is (fitted_behind (fitted_behind (fitted_behind first second) third) words)
+    head_few = rw head_is (omega (arith, numbers_few numbers wide))
 
 -- ---- the clock
 
 module _ (t : maybe.Option Clock.Timing) (delay : maybe.Option ℤ) where
-  clock_is : clock_text t delay ≡ ((((67 ∷ []) ++ (32 ∷ offset_word t)) ++ (32 ∷ round_trip_word t)) ++ (32 ∷ or_dash delay)) ++ (10 ∷ [])
+  pub clock_is : clock_text t delay ≡ ((((67 ∷ []) ++ (32 ∷ offset_word t)) ++ (32 ∷ round_trip_word t)) ++ (32 ∷ or_dash delay)) ++ (10 ∷ [])
   unfolding clock_text line rest
   clock_is = simp append_assoc
-
-  module _ (entry : List ℕ) (room : 65 ≤ length entry) {a b e : List ℕ} {first second third : ℕ}
-      (one : Fitted (32 ∷ offset_word t) 1 (set entry 0 67) a first × (first ≤ 1 + 21))
-      (two : Fitted (32 ∷ round_trip_word t) first a b second × (second ≤ first + 21))
-      (three : Fitted (32 ∷ or_dash delay) second b e third × (third ≤ second + 21)) where
-    lengths : (length a ≡ length entry) × (length b ≡ length entry) × (length e ≡ length entry)
-    lengths =
-        let la : length a ≡ length entry = fitted_length one.0 ∙ length-set entry 0 67 in
-        let lb : length b ≡ length entry = fitted_length two.0 ∙ la in
-        (la, lb, fitted_length three.0 ∙ lb)
-
-    pub third_inside : third + 1 ≤ 65
-    third_inside = omega (arith, one.1, two.1, three.1)
-
-    pub clock_kept : length e ≡ length entry
-    clock_kept = lengths.2
-
-    pub clock_written : Piece 65 (clock_text t delay) entry (set e third 10) (Some (third + 1))
-    clock_written =
-        let all = rw (← clock_is)
-        at (fitted_behind (fitted_behind (fitted_behind (fitted_behind (byte_fitted 67 0 entry (omega arith)) one.0) two.0) three.0)
-        (byte_fitted 10 third e (omega (arith, third_inside, lengths.2)))) in
-        written_piece (omega (arith, all.place, third_inside)) room all
 
 -- ---- the model's lines, from their pieces
 

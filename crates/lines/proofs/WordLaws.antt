@@ -6,7 +6,11 @@ use native.Mathlib.Omega.{arith}
 use native.Mathlib.Numerals.{add-one}
 use lib.ListN.{length, take, get_or, length-append}
 use lib.Seq.{take-suc}
-use Rattle.model.specs.Replay.{decimal, signed_decimal, hex_bits, rest}
+use Rattle.model.specs.Replay.{decimal, signed_decimal, hex_bits, rest, or_dash}
+use Rattle.model.specs.Clock as Clock
+use Rattle.model.specs.Clock.{reading}
+use Rattle.audio_metrics.specs.Views.{known_of, timing_of, delay_of}
+use Rattle.audio_metrics.specs.declared.ClockTiming.{ClockTiming}
 use Rattle.model.specs.Floats.{to_bits}
 use Rattle.model.proofs.Decimal.{decimal_at_most, hex_digits_length}
 use Rattle.model.proofs.ListLaws.{placed_length}
@@ -14,11 +18,10 @@ use lib.IntN.{ℤ, pos, negsuc}
 use lib.Ieee.{Float}
 use mir.Syntax.{w64}
 use mir.Val.{Fits, SFits}
-use Rattle.text.specs.Promises.{Written}
-use Rattle.std.proofs.Common.{Option, Some, IsSome}
-use Rattle.text.proofs.FittedLaws.{Fitted, some_answered, answer_fitted, fitted_behind}
+use Rattle.std.proofs.Common.{Option, None, Some, MatchOption, IsSomeAnd}
+use Rattle.text.proofs.FittedLaws.{Fitted, fitted_behind}
 use Rattle.text.proofs.WrittenLaws.{none_placed}
-use Rattle.lines.specs.Lines.{spaced}
+use Rattle.lines.specs.Lines.{spaced, word_or_dash}
 
 -- a line's words, and then its end
 pub rest_is_spaced : (ws : List (List ℕ)) → rest ws ≡ spaced ws ++ (10 ∷ [])
@@ -61,18 +64,6 @@ numbers_few [] wide = omega arith
 numbers_few (x ∷ xs) wide =
     omega (arith, digits_few x (wide 0).fits, numbers_few xs (λ i. wide (suc i)), length-append (decimal x) (spaced (map decimal xs)))
 
--- ---- a space, and then a word
-
-module _ (word : List ℕ) {at from : ℕ} {first middle last : List ℕ} {space letters : Option ℕ} (before : Written (32 ∷ []) at first middle space) (behind : space ≡ Some from)
-    (written : Written word from middle last letters) where
-  pub word_answered : at + suc (length word) ≤ length first → IsSome letters
-  word_answered fits =
-      let f = answer_fitted before behind in
-      some_answered written (rw (f.target, f.place) (omega (arith, fits, placed_length at (32 ∷ []) first f.room)))
-
-  pub word_fitted : {next : ℕ} → letters ≡ Some next → Fitted (32 ∷ word) at first last next
-  word_fitted answered = fitted_behind (answer_fitted before behind) (answer_fitted written answered)
-
 -- ---- numbers one behind the other
 
 pub nothing_fitted : (at : ℕ) (xs : List ℕ) → at ≤ length xs → Fitted [] at xs xs at
@@ -100,3 +91,20 @@ pub signed_few : (z : ℤ) → SFits w64 z → length (signed_decimal z) ≤ 20
 unfolding signed_decimal
 signed_few (pos n) fits = decimal_at_most 19 n (omega (arith, fits.sfits))
 signed_few (negsuc n) fits = omega (arith, decimal_at_most 18 (suc n) (omega (arith, fits.sfits)))
+
+-- ---- words that may be absent
+
+-- a word that is read of what may be absent
+pub read_word : {B : Type 0} {P : ClockTiming → B → Type 0} (word : B → List ℕ) (f : ClockTiming → B) (g : Clock.Timing → ℤ)
+    → ((t : ClockTiming) → word (f t) ≡ signed_decimal (g (known_of t))) → ((t : ClockTiming) (b : B) → P t b → b ≡ f t)
+    → (timing : Option ClockTiming) (read : Option B) → MatchOption timing (read ≡ None) (λ t. IsSomeAnd read (P t))
+    → word_or_dash word read ≡ or_dash (reading g (timing_of timing))
+unfolding or_dash
+read_word word f g same value None read is = rw is
+read_word word f g same value (Some t) None is = absurd is
+read_word word f g same value (Some t) (Some b) is = rw (value t b is) (same t)
+
+pub delay_word : (one_way : Option ℤ) → word_or_dash signed_decimal one_way ≡ or_dash (delay_of one_way)
+unfolding or_dash
+delay_word None = refl
+delay_word (Some n) = refl

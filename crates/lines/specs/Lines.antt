@@ -16,6 +16,11 @@ spaced (w ∷ ws) = 32 ∷ w ++ spaced ws
 unfoldable pub head : ℕ → Side → List ℕ → List ℕ
 head letter side numbers = letter ∷ spaced ((side_letter side ∷ []) ∷ map decimal numbers)
 
+-- a word, or a dash for one that is absent
+abbrev pub word_or_dash : {A : Type 0} → (A → List ℕ) → Option A → List ℕ
+word_or_dash word None = 45 ∷ []
+word_or_dash word (Some w) = word w
+
 -- the clock's words, with a dash for what is absent
 abbrev pub offset_word : maybe.Option Clock.Timing → List ℕ
 offset_word t = or_dash (reading (λ k. k.offset) t)

@@ -1,35 +1,116 @@
 // Lines of replay's output, as pieces of text at the front of lent bytes.
 #![tactic(auto)]
 
-ghost use Rattle.std.specs.Prelude.{[], ◌∷◌, map, ◌≡◌, ◌+◌, ◌*◌, ◌≤◌, length, nat_le};
-ghost use Rattle.model.specs.Replay.{decimal, signed_decimal, hex_bits, line, side_letter, or_dash};
+ghost use Rattle.std.specs.Prelude.{List, ℕ, [], ◌<◌, ◌∷◌, map, ◌≡◌, ◌+◌, ◌*◌, ◌≤◌, length, max, nat_le};
+ghost use Rattle.model.specs.Replay.{decimal, signed_decimal, hex_bits, line, side_letter};
 ghost use Rattle.audio_metrics.specs.Views.{timing_of, delay_of};
 ghost use Rattle.calls.specs.Views.{model_side};
 ghost use Rattle.text.proofs.FittedLaws.{Fitted};
-ghost use Rattle.lines.specs.Lines.{spaced, head, offset_word, round_trip_word, clock_text, Piece, ValuesWritten};
+ghost use Rattle.text.specs.Promises.{Written};
+ghost use Rattle.lines.specs.Lines.{spaced, head, word_or_dash, clock_text, Piece, ValuesWritten};
 
 use audio_metrics::ClockTiming;
 use calls::Side;
 
-// A space and a number in decimal; the answer is the place behind them.
-fn put_number(out: &mut [u8], at: usize, n: u64) -> usize
-    requires { at + 21 ≤ length out.old }
-    ensures { Fitted (32 ∷ decimal n) at out.old out.new result }
-{
-    let from = text::put_byte(out, at, b' ').unwrap();
-    text::put_decimal(out, from, n).unwrap()
+// What stands in a line behind a space.
+trait Word: Copy {
+    // The most bytes that it takes.
+    ghost most: { ℕ };
+
+    ghost letters: { Self → List ℕ };
+
+    // Writes it from a place on; the answer is the place behind it.
+    fn put(self, out: &mut [u8], at: usize) -> Option<usize>
+        ensures written { Written (letters self) at out.old out.new result }
+        ensures few { length (letters self) ≤ most };
 }
 
-// Numbers, each after a space; the answer is the place behind them.
-fn put_numbers(out: &mut [u8], at: usize, numbers: &[u64]) -> usize
-    requires { at + 21 * length numbers.now ≤ length out.old }
-    ensures { Fitted (spaced (map decimal numbers.now)) at out.old out.new result }
-{
-    let mut next = at;
-    for n in numbers {
-        next = put_number(out, next, *n);
+impl Word for u64 {
+    ghost most = { 20 };
+
+    ghost letters = { decimal };
+
+    #[tactic(auto, using(crate::proofs::WordLaws::digits_few))]
+    fn put(self, out: &mut [u8], at: usize) -> Option<usize> {
+        text::put_decimal(out, at, self)
     }
-    next
+}
+
+impl Word for i64 {
+    ghost most = { 20 };
+
+    ghost letters = { signed_decimal };
+
+    #[tactic(auto, using(crate::proofs::WordLaws::signed_few))]
+    fn put(self, out: &mut [u8], at: usize) -> Option<usize> {
+        text::put_signed(out, at, self)
+    }
+}
+
+// A float stands there by its bits.
+impl Word for f32 {
+    ghost most = { 8 };
+
+    ghost letters = { hex_bits };
+
+    #[tactic(auto, using(crate::proofs::WordLaws::bits_length), unfolding(model::specs::Replay::hex_bits))]
+    fn put(self, out: &mut [u8], at: usize) -> Option<usize> {
+        text::put_hex(out, at, floats::to_bits(self))
+    }
+}
+
+// For a word that is absent stands a dash.
+impl<W: Word> Word for Option<W> {
+    ghost most = { max 1 W.most };
+
+    ghost letters = { word_or_dash W.letters };
+
+    fn put(self, out: &mut [u8], at: usize) -> Option<usize> {
+        match self {
+            Some(word) => word.put(out, at),
+            None => text::put_byte(out, at, b'-'),
+        }
+    }
+}
+
+// Lent bytes, and the place behind what is written.
+#[derive(Drop)]
+struct Line<'a> {
+    out: &'a mut [u8],
+    at: usize,
+}
+
+impl<'a> Line<'a> {
+    fn byte(&mut self, b: u8)
+        requires { self.old.at < length self.old.out.now }
+        ensures lent { (self.new.out.ghost_name ≡ self.old.out.ghost_name) × (length self.new.out.now ≡ length self.old.out.now) }
+        ensures fitted { Fitted (b ∷ []) self.old.at self.old.out.now self.new.out.now self.new.at }
+    {
+        self.out[self.at] = b;
+        self.at += 1;
+    }
+
+    // A space and a word.
+    fn word<W: Word>(&mut self, word: W)
+        requires { self.old.at + (1 + W.most) ≤ length self.old.out.now }
+        ensures lent { (self.new.out.ghost_name ≡ self.old.out.ghost_name) × (length self.new.out.now ≡ length self.old.out.now) }
+        ensures fitted { Fitted (32 ∷ W.letters word) self.old.at self.old.out.now self.new.out.now self.new.at }
+        ensures few { self.new.at ≤ self.old.at + (1 + W.most) }
+    {
+        self.byte(b' ');
+        self.at = word.put(self.out, self.at).unwrap();
+    }
+
+    // Words, each after a space.
+    fn words<W: Word>(&mut self, words: &[W])
+        requires { self.old.at + (1 + W.most) * length words.now ≤ length self.old.out.now }
+        ensures lent { (self.new.out.ghost_name ≡ self.old.out.ghost_name) × (length self.new.out.now ≡ length self.old.out.now) }
+        ensures fitted { Fitted (spaced (map W.letters words.now)) self.old.at self.old.out.now self.new.out.now self.new.at }
+    {
+        for word in words {
+            self.word(*word);
+        }
+    }
 }
 
 // Whether so many bytes, and the most that so many numbers take, are at most so many.
@@ -46,19 +127,11 @@ pub fn put_line(out: &mut [u8], letter: u8, numbers: &[u64]) -> Option<usize>
     if !has_room(out.len(), 2, numbers.len()) {
         return None;
     }
-    out[0] = letter;
-    let end = put_numbers(out, 1, numbers);
-    out[end] = b'\n';
-    Some(end + 1)
-}
-
-// A space and a float's bits in hexadecimal; the answer is the place behind them.
-fn put_value(out: &mut [u8], at: usize, x: f32) -> usize
-    requires { at + 9 ≤ length out.old }
-    ensures { Fitted (32 ∷ hex_bits x) at out.old out.new result }
-{
-    let from = text::put_byte(out, at, b' ').unwrap();
-    text::put_hex(out, from, floats::to_bits(x)).unwrap()
+    let mut line = Line { out, at: 0 };
+    line.byte(letter);
+    line.words(numbers);
+    line.byte(b'\n');
+    Some(line.at)
 }
 
 // The bits of as many values as the bytes have room for, each after a space and in nine bytes; the answer is how many.
@@ -66,13 +139,11 @@ pub fn put_values(out: &mut [u8], values: &[f32]) -> usize
     ensures { ValuesWritten values.now out.old out.new result }
 {
     let fitting = &values[..values.len().min(out.len() / 9)];
-    let mut next = 0;
-    for x in fitting {
-        next = put_value(out, next, *x);
-    }
+    Line { out, at: 0 }.words(fitting);
     fitting.len()
 }
 
+#[tactic(auto, unfolding(model::specs::Replay::side_letter))]
 pub fn side_letter(side: Side) -> u8
     ensures { result ≡ side_letter (model_side side) }
 {
@@ -89,59 +160,12 @@ pub fn put_head(out: &mut [u8], letter: u8, side: Side, numbers: &[u64]) -> Opti
     if !has_room(out.len(), 3, numbers.len()) {
         return None;
     }
-    out[0] = letter;
-    out[1] = b' ';
-    out[2] = side_letter(side);
-    Some(put_numbers(out, 3, numbers))
-}
-
-// A space and a signed number in decimal; the answer is the place behind them.
-fn put_signed(out: &mut [u8], at: usize, n: i64) -> usize
-    requires { at + 21 ≤ length out.old }
-    ensures { Fitted (32 ∷ signed_decimal n) at out.old out.new result }
-{
-    let from = text::put_byte(out, at, b' ').unwrap();
-    text::put_signed(out, from, n).unwrap()
-}
-
-// A space and a dash, for a number that is absent; the answer is the place behind them.
-fn put_dash(out: &mut [u8], at: usize) -> usize
-    requires { at + 2 ≤ length out.old }
-    ensures { Fitted (32 ∷ 45 ∷ []) at out.old out.new result }
-{
-    out[at] = b' ';
-    out[at + 1] = b'-';
-    at + 2
-}
-
-fn put_offset(out: &mut [u8], at: usize, timing: Option<ClockTiming>) -> usize
-    requires { at + 21 ≤ length out.old }
-    ensures { Fitted (32 ∷ offset_word (timing_of timing)) at out.old out.new result × (result ≤ at + 21) }
-{
-    match timing {
-        Some(t) => put_signed(out, at, t.offset_ns),
-        None => put_dash(out, at),
-    }
-}
-
-fn put_round_trip(out: &mut [u8], at: usize, timing: Option<ClockTiming>) -> usize
-    requires { at + 21 ≤ length out.old }
-    ensures { Fitted (32 ∷ round_trip_word (timing_of timing)) at out.old out.new result × (result ≤ at + 21) }
-{
-    match timing {
-        Some(t) => put_number(out, at, t.rtt_ns),
-        None => put_dash(out, at),
-    }
-}
-
-fn put_delay(out: &mut [u8], at: usize, one_way: Option<i64>) -> usize
-    requires { at + 21 ≤ length out.old }
-    ensures { Fitted (32 ∷ or_dash (delay_of one_way)) at out.old out.new result × (result ≤ at + 21) }
-{
-    match one_way {
-        Some(n) => put_signed(out, at, n),
-        None => put_dash(out, at),
-    }
+    let mut head = Line { out, at: 0 };
+    head.byte(letter);
+    head.byte(b' ');
+    head.byte(side_letter(side));
+    head.words(numbers);
+    Some(head.at)
 }
 
 // The clock's line: offset, round trip and one-way delay in nanoseconds, or a dash.
@@ -151,10 +175,11 @@ pub fn put_clock(out: &mut [u8], timing: Option<ClockTiming>, one_way: Option<i6
     if out.len() < 65 {
         return None;
     }
-    out[0] = b'C';
-    let first = put_offset(out, 1, timing);
-    let second = put_round_trip(out, first, timing);
-    let third = put_delay(out, second, one_way);
-    out[third] = b'\n';
-    Some(third + 1)
+    let mut clock = Line { out, at: 0 };
+    clock.byte(b'C');
+    clock.word(timing.map(|t| t.offset_ns));
+    clock.word(timing.map(|t| t.rtt_ns));
+    clock.word(one_way);
+    clock.byte(b'\n');
+    Some(clock.at)
 }

@@ -10,58 +10,21 @@ mod saying;
 
 ghost use Rattle.io.specs.Counts.{IsPrefixLen};
 
-use files::File;
 use playback_parts::Form;
-use progress::Progress;
+use printing::{Areas, FLOATS, WORDS, Wanted};
 use std::env::{Env, FillError};
-use tape::Setup;
 
 const WINDOW: usize = 524288;
 
-// What the largest setup asks for.
-const FLOATS: usize = 868277;
-
-const WORDS: usize = 33816576;
-
-fn lend_samples(
-    file: &File,
-    setup: Setup,
-    form: Form,
-    shown: Progress,
-    window: &mut [u8],
-    fs: &mut [f32; FLOATS],
-    us: &mut [u32; WORDS],
-) {
-    let mut samples = [0.0f32; 65535];
-    let mut text = [0u8; 65536];
-    printing::replay(
-        file,
-        setup,
-        form,
-        shown,
-        window,
-        fs,
-        us,
-        &mut samples,
-        &mut text,
-    );
-}
-
-fn lend_floats(
-    file: &File,
-    setup: Setup,
-    form: Form,
-    shown: Progress,
-    window: &mut [u8],
-    us: &mut [u32; WORDS],
-) {
-    let mut fs = [0.0f32; FLOATS];
-    lend_samples(file, setup, form, shown, window, &mut fs, us);
-}
-
-fn lend_words(file: &File, setup: Setup, form: Form, shown: Progress, window: &mut [u8]) {
-    let mut us = [0u32; WORDS];
-    lend_floats(file, setup, form, shown, window, &mut us);
+// The replay over areas that are made here, and lent whole.
+fn lend(wanted: Wanted<'_>, window: &mut [u8]) {
+    let mut areas = Areas {
+        fs: [0.0; FLOATS],
+        us: [0; WORDS],
+        samples: [0.0; 65535],
+        text: [0; 65536],
+    };
+    printing::replay(wanted, window, &mut areas);
 }
 
 // How many arguments there are, the program's name among them.
@@ -83,10 +46,7 @@ fn argument(rt: HostRuntime, left: usize, word: &mut [u8; 4096]) -> usize
     if count < left {
         return 0;
     }
-    match rt.arg(count - left, word) {
-        Ok(n) => n,
-        Err(_) => 0,
-    }
+    rt.arg(count - left, word).unwrap_or(0)
 }
 
 // Takes the last so many arguments. (A function that calls itself takes no large memory into its own: so the areas are laid
@@ -114,7 +74,13 @@ fn take(rt: HostRuntime, left: usize, form: Form) {
     match tape_files::check(&file, &mut window) {
         Ok(setup) => {
             let shown = progress::begin(&rt.stdout(), &rt.stderr());
-            lend_words(&file, setup, form, shown, &mut window);
+            let wanted = Wanted {
+                file: &file,
+                setup,
+                form,
+                shown,
+            };
+            lend(wanted, &mut window);
         }
         Err(why) => printing::not_accepted(why),
     }

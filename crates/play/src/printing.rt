@@ -3,8 +3,8 @@ ghost use Rattle.std.specs.Prelude.{◌≤◌, length};
 
 use crate::saying;
 use files::{Failure, File};
-use playback_files::Ending;
-use playback_opening::Beginning;
+use playback_files::NotReplayed;
+use playback_opening::NotBegun;
 use playback_parts::Form;
 use playback_windows::refuse_in;
 use progress::Progress;
@@ -24,11 +24,9 @@ fn refused(text: &[u8], n: usize)
 
 // The line of a tape that is refused at a place.
 fn refuse(place: usize, text: &mut [u8]) {
-    let line = refuse_in(text, place);
-    match line {
-        Beginning::Refused(n) => refused(text, n),
-        Beginning::NoRoom => saying::unwritten(),
-        Beginning::Playing(_) => saying::changed(),
+    match refuse_in(text, place) {
+        NotBegun::Refused(n) => refused(text, n),
+        NotBegun::NoRoom => saying::unwritten(),
     }
 }
 
@@ -52,25 +50,52 @@ pub fn not_accepted(why: NotAccepted) {
     }
 }
 
+// A tape that was accepted, in a file, and how its replay is printed and told.
+#[derive(Clone, Copy)]
+pub struct Wanted<'a> {
+    pub file: &'a File,
+    pub setup: Setup,
+    pub form: Form,
+    pub shown: Progress,
+}
+
+// What the largest setup asks for.
+pub const FLOATS: usize = 868277;
+
+pub const WORDS: usize = 33816576;
+
+// What is lent to a replay, beside the window.
+#[derive(Drop)]
+pub struct Areas {
+    pub fs: [f32; FLOATS],
+    pub us: [u32; WORDS],
+    pub samples: [f32; 65535],
+    pub text: [u8; 65536],
+}
+
 // The replay of a tape that was accepted.
-pub fn replay(
-    file: &File,
-    setup: Setup,
-    form: Form,
-    shown: Progress,
-    window: &mut [u8],
-    fs: &mut [f32],
-    us: &mut [u32],
-    samples: &mut [f32],
-    text: &mut [u8],
-) {
-    let ending = playback_files::replay(file, setup, form, shown, window, fs, us, samples, text);
-    match ending {
-        Ending::Over => saying::over(),
-        Ending::Refused(n) => refused(text, n),
-        Ending::NoRoom => saying::unwritten(),
-        Ending::Unwritten => saying::unwritten(),
-        Ending::Failed(failure) => failed(failure),
-        Ending::Changed => saying::changed(),
+pub fn replay(wanted: Wanted<'_>, window: &mut [u8], areas: &mut Areas) {
+    let Wanted {
+        file,
+        setup,
+        form,
+        shown,
+    } = wanted;
+    match playback_files::replay(
+        file,
+        setup,
+        form,
+        shown,
+        window,
+        &mut areas.fs,
+        &mut areas.us,
+        &mut areas.samples,
+        &mut areas.text,
+    ) {
+        Ok(()) => saying::over(),
+        Err(NotReplayed::Refused(n)) => refused(&areas.text, n),
+        Err(NotReplayed::NoRoom | NotReplayed::Unwritten) => saying::unwritten(),
+        Err(NotReplayed::Failed(failure)) => failed(failure),
+        Err(NotReplayed::Changed) => saying::changed(),
     }
 }

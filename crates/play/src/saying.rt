@@ -1,7 +1,8 @@
 // What is said of a replay: sentences on standard error, and on descriptor 3 one word of what came of it: over, refused, failed
 // or unwritten.
 
-// File descriptors.
+// File descriptors: the runtime has no handle of the third, and with handles of the first two each function from `main` down would take
+// one, and what is told on 3 would stand apart from what is told beside it.
 const STDERR_FILENO: i32 = 2;
 
 const STDOUT_FILENO: i32 = 1;

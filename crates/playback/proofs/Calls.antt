@@ -7,13 +7,17 @@ use mathlib.Core.List.{List}
 use lib.ListN.{length}
 use lib.Dec.{leb}
 use lib.Ieee.{Float}
+use Rattle.std.specs.Prelude.{Some, None, Ok, Err}
 use borrow.Author.Tests.{lt-leb}
 use Rattle.model.specs.Bytes.{all}
+use Rattle.model.specs.Sizes.{Sizes}
 use Rattle.model.specs.Tape as Tape
 use Rattle.model.specs.Tape.{call_at}
 use Rattle.model.proofs.BoolLaws.{clash}
 use Rattle.model.proofs.BytesLaws.{is_byte}
 use Rattle.calls.specs.Views.{sizes_of}
+use Rattle.tape.specs.declared.BadWord.{BadWord}
+use Rattle.tape.specs.Answers.{bad_at}
 use Rattle.receiver_state.specs.declared.Answered.{Answered}
 use Rattle.replaying.specs.Acting.{call_found, MadeOf, TooMany}
 use Rattle.playback_parts.specs.declared.Form.{Form}
@@ -21,13 +25,12 @@ use Rattle.playback_parts.specs.declared.Doing.{Doing}
 use Rattle.playback_parts.specs.declared.Playback.{Playback}
 use Rattle.playback.specs.declared.Wrote.{Wrote}
 use Rattle.playback_parts.specs.declared.facts.Facts.{Facts}
-use Rattle.playback_parts.specs.declared.facts.Kind.TheVariants as Kind
 use Rattle.playback_parts.specs.Facts.{FactsOf}
 use Rattle.playback.specs.Steps.{room_for, WrittenAs, CallBegun}
 use Rattle.playback.proofs.Written.{call_written}
 
 module _ (tape : List ℕ) (w : Playback) (facts : Facts) (doing : w.doing ≡ Doing.Call) where
-  pub made_written : (form : Form) (found : Tape.Found) → call_at tape w.place ≡ found → FactsOf (sizes_of w.receiver.sizes) found facts → all is_byte tape ≡ true
+  pub made_written : (form : Form) (found : Tape.Found) → call_at tape w.place ≡ found → FactsOf (sizes_of w.receiver.sizes) found (Ok (Some facts)) → all is_byte tape ≡ true
       → (fs : List Float) (us : List ℕ) (samples : List Float) (text : List ℕ) (v : Answered) (fs' : List Float) (us' : List ℕ) (samples' : List Float) (text' : List ℕ) (x : Wrote)
       → MadeOf (call_found found) w.receiver fs us samples v fs' us' samples' → CallBegun form v facts fs' text text' x
       → WrittenAs form tape w fs us samples text x fs' us' samples' text'
@@ -47,18 +50,19 @@ module _ (tape : List ℕ) (w : Playback) (facts : Facts) (doing : w.doing ≡ D
   too_few Tape.found_end is samples text many = absurd many
   too_few (Tape.found_bad place) is samples text many = absurd many
 
--- what is no call has another kind
-pub call_found_law : {P : Type 0} (z : _) (facts : Facts) (found : Tape.Found) → FactsOf z found facts → facts.kind ≡ Kind.Call → call_found found ≡ none → P
-call_found_law z facts (Tape.found_call c next) known kind None-found = clash (cc)
-call_found_law z facts Tape.found_end known kind None-found = clash (cc)
-call_found_law z facts (Tape.found_bad place) known kind None-found = clash (cc)
+-- what has facts is a call, what has none is the end, and what is refused is a bad word
+module _ (z : Sizes) where
+  pub call_found_law : {P : Type 0} (facts : Facts) (found : Tape.Found) → FactsOf z found (Ok (Some facts)) → call_found found ≡ none → P
+  call_found_law facts (Tape.found_call c next) known not_found = clash (cc)
+  call_found_law facts Tape.found_end known not_found = clash (cc)
+  call_found_law facts (Tape.found_bad place) known not_found = clash (cc)
 
-pub end_found : (z : _) (facts : Facts) (found : Tape.Found) → FactsOf z found facts → facts.kind ≡ Kind.End → found ≡ Tape.found_end
-end_found z facts (Tape.found_call c next) known kind = let one = known.kind in clash (cc)
-end_found z facts Tape.found_end known kind = refl
-end_found z facts (Tape.found_bad place) known kind = clash (cc)
+  pub end_found : (found : Tape.Found) → FactsOf z found (Ok None) → found ≡ Tape.found_end
+  end_found (Tape.found_call c next) known = absurd known
+  end_found Tape.found_end known = refl
+  end_found (Tape.found_bad place) known = clash (cc)
 
-pub bad_found : (z : _) (facts : Facts) (found : Tape.Found) (place : ℕ) → FactsOf z found facts → facts.kind ≡ Kind.Bad place → found ≡ Tape.found_bad place
-bad_found z facts (Tape.found_call c next) place known kind = let one = known.kind in clash (cc)
-bad_found z facts Tape.found_end place known kind = clash (cc)
-bad_found z facts (Tape.found_bad at) place known kind = cc
+  pub bad_found : (bad : BadWord) (found : Tape.Found) → FactsOf z found (Err bad) → found ≡ Tape.found_bad bad.place
+  bad_found bad (Tape.found_call c next) known = absurd known
+  bad_found bad Tape.found_end known = clash (cc)
+  bad_found bad (Tape.found_bad place) known = let same : bad ≡ bad_at place = cc in rw same

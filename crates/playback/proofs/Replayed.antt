@@ -1,12 +1,13 @@
 -- THE THEOREM ON A REPLAY: what its steps write in either form, one after the other, is what the model prints of the tape. Assumes nothing.
 use Prim.Native.Nat.{ℕ, ◌+◌, ◌≤◌, ◌<◌}
 use mathlib.Core.Path.{◌≡◌, refl, sym, ◌∙◌, ap}
-use mathlib.Core.Bool.{Bool, true, false, true≢false}
+use mathlib.Core.Bool.{true, true≢false}
 use mathlib.Core.List.{List, [], ◌++◌, append_assoc, append-nil}
 use native.Mathlib.Omega.{arith}
 use lib.ListN.{length, take, drop, length-append}
 use lib.Seq.{take_at}
 use lib.Ieee.{Float}
+use Rattle.std.specs.Prelude.{Some, None, Ok, Err}
 use Rattle.model.specs.Bytes.{placed}
 use Rattle.model.specs.Receiver.{Call}
 use Rattle.model.specs.Tape.{call_at, found_bad}
@@ -15,13 +16,12 @@ use Rattle.model.proofs.TapeWalk.{CallsAt, ended, met}
 use Rattle.playback_parts.specs.declared.Form.{Form}
 use Rattle.playback_parts.specs.declared.Doing.{Doing}
 use Rattle.playback_parts.specs.declared.Playback.{Playback}
-use Rattle.playback.specs.declared.Turn.{Turn}
 use Rattle.playback.specs.declared.Wrote.{Wrote}
-use Rattle.playback.specs.declared.Step.{Step}
-use Rattle.playback_opening.specs.declared.Beginning.TheVariants as Beginning
+use Rattle.playback.specs.declared.StepError.{StepError}
+use Rattle.playback_opening.specs.declared.NotBegun.TheVariants as NotBegun
 use Rattle.playback_parts.specs.Parts.{TextPut}
 use Rattle.playback_opening.specs.Beginnings.{BegunAs}
-use Rattle.playback.specs.Steps.{remaining, remaining_of, values_held, room_for, calls_now, place_next, steps_left, turns_left, WrittenAs, DoneAs}
+use Rattle.playback.specs.Steps.{remaining, remaining_of, values_held, room_for, calls_now, place_next, steps_left, Step, DoneAs}
 use Rattle.playback.specs.Chains.{Moment, WroteAs, StepsAs, here, wrote}
 
 -- what stands at the front is the text
@@ -91,11 +91,9 @@ nothing_left form m cs done = rw done
 -- ---- the next step
 
 abbrev pub IsWritten : Step → Type 0
-IsWritten (Step.Written v) = Unit {0}
-IsWritten Step.NoRoom = ⊥
-IsWritten Step.NotHeld = ⊥
-IsWritten (Step.Bad place) = ⊥
-IsWritten Step.Over = ⊥
+IsWritten (Ok (Some v)) = Unit {0}
+IsWritten (Ok None) = ⊥
+IsWritten (Err why) = ⊥
 
 -- the values that a step left to be printed lie inside of what is lent
 steps_held : (form : Form) (tape : List ℕ) (m last : Moment) (printed : List ℕ) → StepsAs form tape m printed last → values_held m.playback.doing m.floats m.samples ≡ true
@@ -110,11 +108,11 @@ no_bad_call (met found rest) is = clash (cc)
 step_writes : (form : Form) (tape : List ℕ) (w : Playback) (fs : List Float) (us : List ℕ) (samples : List Float) (text : List ℕ) (v : Step) (fs' : List Float) (us' : List ℕ) (samples' : List Float) (text' : List ℕ) (cs : List Call)
     → CallsAt tape w.place cs → values_held w.doing fs samples ≡ true → room_for tape w samples text ≡ true → (w.doing ≡ Doing.Done → ⊥)
     → DoneAs form tape w fs us samples text v fs' us' samples' text' → IsWritten v
-step_writes form tape w fs us samples text (Step.Written v) fs' us' samples' text' cs calls held room more done = tt
-step_writes form tape w fs us samples text Step.NoRoom fs' us' samples' text' cs calls held room more done = absurd (true≢false (sym room ∙ done.0))
-step_writes form tape w fs us samples text Step.NotHeld fs' us' samples' text' cs calls held room more done = absurd (true≢false (sym held ∙ done.0))
-step_writes form tape w fs us samples text (Step.Bad place) fs' us' samples' text' cs calls held room more done = no_bad_call calls done.1
-step_writes form tape w fs us samples text Step.Over fs' us' samples' text' cs calls held room more done = absurd (more done.0)
+step_writes form tape w fs us samples text (Ok (Some v)) fs' us' samples' text' cs calls held room more done = tt
+step_writes form tape w fs us samples text (Err StepError.NoRoom) fs' us' samples' text' cs calls held room more done = absurd (true≢false (sym room ∙ done.0))
+step_writes form tape w fs us samples text (Err StepError.NotHeld) fs' us' samples' text' cs calls held room more done = absurd (true≢false (sym held ∙ done.0))
+step_writes form tape w fs us samples text (Err (StepError.Bad bad)) fs' us' samples' text' cs calls held room more done = no_bad_call calls done.1
+step_writes form tape w fs us samples text (Ok None) fs' us' samples' text' cs calls held room more done = absurd (more done.0)
 
 -- ---- the number of steps
 
@@ -133,19 +131,6 @@ steps_end form tape m last printed (wrote {n = n} {printed = rest} step behind s
     let less : left_at tape n < left_at tape m = rw behind step.less in
     omega (arith, less, steps_end form tape n last rest steps)
 
--- a turn that goes on, or does not, behind a step that was written
-pub turn_less : {form : Form} (tape : List ℕ) (t u : Turn) (fs : List Float) (us : List ℕ) (samples : List Float) (text : List ℕ) (v : Wrote) (fs' : List Float) (us' : List ℕ) (samples' : List Float) (text' : List ℕ)
-    → t.going ≡ true → u.playback ≡ v.playback → WrittenAs form tape t.playback fs us samples text v fs' us' samples' text' → turns_left tape u fs' samples' < turns_left tape t fs samples
-turn_less tape t u fs us samples text v fs' us' samples' text' going same step = by_going u.going refl
-  where
-    by_going : (b : Bool) → u.going ≡ b → turns_left tape u fs' samples' < turns_left tape t fs samples
-    by_going true is = rw (is, going, same) (omega (arith, step.less))
-    by_going false is = rw (is, going) (omega arith)
-
--- a turn that ends
-pub turn_ended : (tape : List ℕ) (t u : Turn) (fs samples fs' samples' : List Float) → t.going ≡ true → u.going ≡ false → turns_left tape u fs' samples' < turns_left tape t fs samples
-turn_ended tape t u fs samples fs' samples' going over = rw (over, going) (omega arith)
-
 -- the bytes of a piece lie inside the text
 pub put_inside : (text entry exit : List ℕ) (n : ℕ) → TextPut text entry exit n → n ≤ length exit
 unfolding placed
@@ -155,10 +140,10 @@ put_inside text entry exit n put = rw (put.target, put.length_is) (rw (length-ap
 
 module _ (form : Form) (out tape : List ℕ) (fs : List Float) (us text : List ℕ) (us' text' : List ℕ) where
   -- where the tape or its setup is refused, all is printed at once
-  pub refused_replay : (n : ℕ) → BegunAs form out tape fs us text (Beginning.Refused n) us' text' → take n text' ≡ out
+  pub refused_replay : (n : ℕ) → BegunAs form out tape fs us text (Err (NotBegun.Refused n)) us' text' → take n text' ≡ out
   refused_replay n begun = put_front out text text' n begun.0
 
-  module _ (w : Playback) (begun : BegunAs form out tape fs us text (Beginning.Playing w) us' text') (samples : List Float) where
+  module _ (w : Playback) (begun : BegunAs form out tape fs us text (Ok w) us' text') (samples : List Float) where
     abbrev first : Moment
     first = record { playback = w; floats = fs; words = us'; samples = samples }
 

@@ -17,8 +17,10 @@ use Rattle.model.proofs.BoolLaws.{by_test, clash, first_of_both, second_of_both}
 use Rattle.model.proofs.ListLaws.{all_drop}
 use Rattle.model.proofs.BytesLaws.{is_byte, is_word, words_of_are_words}
 use Rattle.tape.proofs.CheckLaws.{found_takes}
+use Rattle.std.proofs.Common.{Result, Ok, Err}
+use Rattle.calls.specs.declared.Refusal.{Refusal}
 use Rattle.receiver_state.specs.declared.Answer.{Answer}
-use Rattle.receiver_state.specs.declared.Answer.TheVariants.{Refused, Accepted, Played, NoRow, Row}
+use Rattle.receiver_state.specs.declared.Answer.TheVariants.{Accepted, Played, NoRow, Row}
 use Rattle.playback_parts.specs.declared.Doing.{Doing}
 use Rattle.playback_parts.specs.declared.facts.Facts.{Facts}
 use Rattle.summary_lines.specs.Summaries.{RowHas}
@@ -103,12 +105,12 @@ part_inside place n xs =
     rw (count, drop_inside place xs) (sym (take_inside n (drop place xs)))
 
 -- so many values has a row, cut to what is lent
-pub row_has : (a : Answer) (facts : Facts) (fs values : List Float) (count : ℕ) → count ≡ row_length a facts (length fs) → RowStands a facts fs values → RowHas a values count
-row_has (Refused why) facts fs values count is stands = tt
-row_has Accepted facts fs values count is stands = tt
-row_has (Played taken dropped short) facts fs values count is stands = tt
-row_has NoRow facts fs values count is stands = tt
-row_has (Row n) facts fs values count is stands = rw (stands n refl, length-take n (drop facts.row fs), length-drop facts.row fs) (omega arith)
+pub row_has : (a : Result Answer Refusal) (facts : Facts) (fs values : List Float) (count : ℕ) → count ≡ row_length a facts (length fs) → RowStands a facts fs values → RowHas a values count
+row_has (Err why) facts fs values count is stands = tt
+row_has (Ok Accepted) facts fs values count is stands = tt
+row_has (Ok (Played taken dropped short)) facts fs values count is stands = tt
+row_has (Ok NoRow) facts fs values count is stands = tt
+row_has (Ok (Row n)) facts fs values count is stands = rw (stands n refl, length-take n (drop facts.row fs), length-drop facts.row fs) (omega arith)
 
 -- values that the test lets through lie inside
 pub values_inside : (from end : ℕ) (xs : List Float) (test : Bool) → test ≡ (leb from end && leb end (length xs)) → not test ≡ false → (from ≤ end) × (end ≤ length xs)

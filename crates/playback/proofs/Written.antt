@@ -1,8 +1,9 @@
 -- Each way in which a step goes on: a call and the beginning of its line, values of a line, and the closing lines. Assumes nothing.
 use Prim.Native.Nat.{ℕ, ◌+◌, ◌-◌, ◌≤◌, ◌<◌, min}
 use mathlib.Core.Path.{◌≡◌, refl, sym, ◌∙◌, ap}
-use mathlib.Core.Bool.{Bool, true, false, true≢false}
-use Rattle.std.proofs.Common.{Option, Some, None}
+use mathlib.Core.Bool.{true, false, true≢false}
+use Rattle.std.proofs.Common.{Option, Some, None, Result, Ok, Err}
+use Rattle.std.specs.Prelude.{MatchOption}
 use mathlib.Core.List.{List, [], ◌++◌, append_assoc, append-nil}
 use native.Mathlib.Omega.{arith}
 use lib.ListN.{length, take, drop}
@@ -20,8 +21,9 @@ use Rattle.model.proofs.BoolLaws.{clash, both_and}
 use Rattle.model.proofs.BytesLaws.{is_byte}
 use Rattle.calls.specs.Views.{sizes_of}
 use Rattle.receiver_state.specs.declared.Receiver.{Receiver}
+use Rattle.calls.specs.declared.Refusal.{Refusal}
 use Rattle.receiver_state.specs.declared.Answer.{Answer}
-use Rattle.receiver_state.specs.declared.Answer.TheVariants.{Refused, Accepted, Played, NoRow, Row}
+use Rattle.receiver_state.specs.declared.Answer.TheVariants.{Accepted, Played, NoRow, Row}
 use Rattle.receiver_state.specs.declared.Answered.{Answered}
 use Rattle.receiver_state.specs.View.{state_of, lent_of, answer_of}
 use Rattle.receiver_state.specs.Report.{counters_in, report_of}
@@ -38,7 +40,7 @@ use Rattle.playback_parts.specs.Facts.{place_of, CallFacts}
 use Rattle.playback_parts.specs.Parts.{part_ended, PartPut}
 use Rattle.playback_parts.specs.Forms.{answer_as, printed_from}
 use Rattle.playback_parts.proofs.FormLaws.{printed_end, printed_step}
-use Rattle.playback.specs.Steps.{remaining, remaining_of, values_held, makes_call, stage, steps_left, calls_now, place_next, CallDone, WrittenAs, doing_after, left_as, RowStands, CallBegun, Printed, incoming_of, clock_of, samples_left, values_left}
+use Rattle.playback.specs.Steps.{remaining, remaining_of, values_held, makes_call, stage, steps_left, calls_now, place_next, CallDone, WrittenAs, doing_after, left_as, RowStands, CallBegun, Printed, incoming_of, clock_of, behind_part}
 use Rattle.playback.proofs.AnswerKinds.{rows, samples, call_kind, answer_kind_law, answer_allowed}
 use Rattle.playback.proofs.Walks.{call_moves, stage_few, moved_less, part_inside}
 
@@ -87,7 +89,7 @@ module _ (c : Call) (r : Receiver) (fs : List Float) (us : List ℕ) (lent : Lis
   unfolding remaining
   nothing_behind form = record { text = λ lines cs s e. e; inside = refl }
 
-  samples_behind : (form : Form) (taken dropped short : ℕ) → v.answer ≡ Played taken dropped short → Behind form Left.Samples (Doing.Samples 0 facts.samples)
+  samples_behind : (form : Form) (taken dropped short : ℕ) → v.answer ≡ Ok (Played taken dropped short) → Behind form Left.Samples (Doing.Samples 0 facts.samples)
   unfolding remaining
   samples_behind form taken dropped short is =
       let play = play_is c (rw is at (answer_kind_law (lent_of fs us) c (state_of r fs us) (state_of v.receiver fs' us') (answer_of v.answer values) made.called.steps (rw is tt))) in
@@ -107,7 +109,7 @@ module _ (c : Call) (r : Receiver) (fs : List Float) (us : List ℕ) (lent : Lis
       let from_place : values ≡ drop (place_of (sizes_of r.sizes) c) fs' = rw datagram.is in
       rw place from_place
 
-  row_behind : (form : Form) (n : ℕ) → v.answer ≡ Row n → Behind form (Left.Values n) (doing_after (Left.Values n) facts (length fs'))
+  row_behind : (form : Form) (n : ℕ) → v.answer ≡ Ok (Row n) → Behind form (Left.Values n) (doing_after (Left.Values n) facts (length fs'))
   unfolding remaining
   row_behind form n is =
       let are : take n values ≡ part (min facts.row (length fs')) (min facts.row (length fs') + min n (length fs' - min facts.row (length fs')) - min facts.row (length fs')) fs' =
@@ -119,12 +121,12 @@ module _ (c : Call) (r : Receiver) (fs : List Float) (us : List ℕ) (lent : Lis
             (le-leb (min facts.row (length fs') + min n (length fs' - min facts.row (length fs'))) (length fs') (omega arith));
       }
 
-  full_behind : (form : Form) (a : Answer) → v.answer ≡ a → Behind form (left_behind a) (doing_after (left_behind a) facts (length fs'))
-  full_behind form (Refused why) is = nothing_behind form
-  full_behind form Accepted is = nothing_behind form
-  full_behind form (Played taken dropped short) is = samples_behind form taken dropped short is
-  full_behind form NoRow is = nothing_behind form
-  full_behind form (Row n) is = row_behind form n is
+  full_behind : (form : Form) (a : Result Answer Refusal) → v.answer ≡ a → Behind form (left_behind a) (doing_after (left_behind a) facts (length fs'))
+  full_behind form (Err why) is = nothing_behind form
+  full_behind form (Ok Accepted) is = nothing_behind form
+  full_behind form (Ok (Played taken dropped short)) is = samples_behind form taken dropped short is
+  full_behind form (Ok NoRow) is = nothing_behind form
+  full_behind form (Ok (Row n)) is = row_behind form n is
 
   behind : (form : Form) → Behind form (left_as form v.answer) (doing_after (left_as form v.answer) facts (length fs'))
   behind Form.Full = full_behind Form.Full v.answer refl
@@ -187,6 +189,11 @@ module _ (c : Call) (r : Receiver) (fs : List Float) (us : List ℕ) (lent : Lis
           less = fewer;
         }
 
+-- what comes after a part of a line's values, where it was matched
+pub behind_is : (next : Option ℕ) (again : ℕ → Doing) (d : Doing) → MatchOption next (d ≡ Doing.Call) (λ from. d ≡ again from) → d ≡ behind_part next again
+behind_is None again d is = is
+behind_is (Some from) again d is = is
+
 -- ---- other pieces: the receiver and what is lent stay
 
 module _ (form : Form) (tape : List ℕ) (w : Playback) (fs : List Float) (us : List ℕ) (lent : List Float) (text text' : List ℕ) where
@@ -243,32 +250,32 @@ module _ (form : Form) (tape : List ℕ) (w : Playback) (fs : List Float) (us : 
 
   -- ---- values of a line
 
-  abbrev behind_part_law : Part → Doing → Wrote
-  behind_part_law p d = record { playback = record { receiver = w.receiver; place = w.place; doing = d }; bytes = p.bytes }
+  abbrev left_by : Part → (ℕ → Doing) → Wrote
+  left_by p again = record { playback = record { receiver = w.receiver; place = w.place; doing = behind_part p.next again }; bytes = p.bytes }
 
   module _ (from end : ℕ) (p : Part) where
     pub samples_written : w.doing ≡ Doing.Samples from end → end ≤ length lent → PartPut lent from end text text' p
-        → WrittenAs form tape w fs us lent text (behind_part_law p (samples_left p end)) fs us lent text'
+        → WrittenAs form tape w fs us lent text (left_by p (λ k. Doing.Samples k end)) fs us lent text'
     unfolding remaining
     samples_written doing inside put = go p.next refl
       where
-        go : (e : Option ℕ) → p.next ≡ e → WrittenAs form tape w fs us lent text (behind_part_law p (samples_left p end)) fs us lent text'
+        go : (e : Option ℕ) → p.next ≡ e → WrittenAs form tape w fs us lent text (left_by p (λ k. Doing.Samples k end)) fs us lent text'
         go None ended =
-            printed_written put.text (samples_left p end) (behind_part_law p (samples_left p end)) (record { put = put.put; behind = refl }) (prints_only (Doing.Samples from end) refl doing) (rw doing) (λ cs. rw (doing, put.line, ended) (append_assoc put.text [] (printed_from form (lent_of fs us) cs (state_of w.receiver fs us)))) (rw ended) (rw (doing, ended) (omega arith))
+            printed_written put.text (behind_part p.next (λ k. Doing.Samples k end)) (left_by p (λ k. Doing.Samples k end)) (record { put = put.put; behind = refl }) (prints_only (Doing.Samples from end) refl doing) (rw doing) (λ cs. rw (doing, put.line, ended) (append_assoc put.text [] (printed_from form (lent_of fs us) cs (state_of w.receiver fs us)))) (rw ended) (rw (doing, ended) (omega arith))
         go (Some next) ended =
-            printed_written put.text (samples_left p end) (behind_part_law p (samples_left p end)) (record { put = put.put; behind = refl }) (prints_only (Doing.Samples from end) refl doing) (rw doing) (λ cs. rw (doing, put.line, ended) (append_assoc put.text (part_ended next end lent) (printed_from form (lent_of fs us) cs (state_of w.receiver fs us))))
+            printed_written put.text (behind_part p.next (λ k. Doing.Samples k end)) (left_by p (λ k. Doing.Samples k end)) (record { put = put.put; behind = refl }) (prints_only (Doing.Samples from end) refl doing) (rw doing) (λ cs. rw (doing, put.line, ended) (append_assoc put.text (part_ended next end lent) (printed_from form (lent_of fs us) cs (state_of w.receiver fs us))))
             (rw ended (both_and (le-leb next end (rw ended at put.inside)) (le-leb end (length lent) inside)))
             (rw (doing, ended) (omega (arith, rw ended at put.inside, rw ended at put.further)))
 
     pub values_written : w.doing ≡ Doing.Values from end → end ≤ length fs → PartPut fs from end text text' p
-        → WrittenAs form tape w fs us lent text (behind_part_law p (values_left p end)) fs us lent text'
+        → WrittenAs form tape w fs us lent text (left_by p (λ k. Doing.Values k end)) fs us lent text'
     unfolding remaining
     values_written doing inside put = go p.next refl
       where
-        go : (e : Option ℕ) → p.next ≡ e → WrittenAs form tape w fs us lent text (behind_part_law p (values_left p end)) fs us lent text'
+        go : (e : Option ℕ) → p.next ≡ e → WrittenAs form tape w fs us lent text (left_by p (λ k. Doing.Values k end)) fs us lent text'
         go None ended =
-            printed_written put.text (values_left p end) (behind_part_law p (values_left p end)) (record { put = put.put; behind = refl }) (prints_only (Doing.Values from end) refl doing) (rw doing) (λ cs. rw (doing, put.line, ended) (append_assoc put.text [] (printed_from form (lent_of fs us) cs (state_of w.receiver fs us)))) (rw ended) (rw (doing, ended) (omega arith))
+            printed_written put.text (behind_part p.next (λ k. Doing.Values k end)) (left_by p (λ k. Doing.Values k end)) (record { put = put.put; behind = refl }) (prints_only (Doing.Values from end) refl doing) (rw doing) (λ cs. rw (doing, put.line, ended) (append_assoc put.text [] (printed_from form (lent_of fs us) cs (state_of w.receiver fs us)))) (rw ended) (rw (doing, ended) (omega arith))
         go (Some next) ended =
-            printed_written put.text (values_left p end) (behind_part_law p (values_left p end)) (record { put = put.put; behind = refl }) (prints_only (Doing.Values from end) refl doing) (rw doing) (λ cs. rw (doing, put.line, ended) (append_assoc put.text (part_ended next end fs) (printed_from form (lent_of fs us) cs (state_of w.receiver fs us))))
+            printed_written put.text (behind_part p.next (λ k. Doing.Values k end)) (left_by p (λ k. Doing.Values k end)) (record { put = put.put; behind = refl }) (prints_only (Doing.Values from end) refl doing) (rw doing) (λ cs. rw (doing, put.line, ended) (append_assoc put.text (part_ended next end fs) (printed_from form (lent_of fs us) cs (state_of w.receiver fs us))))
             (rw ended (both_and (le-leb next end (rw ended at put.inside)) (le-leb end (length fs) inside)))
             (rw (doing, ended) (omega (arith, rw ended at put.inside, rw ended at put.further)))

@@ -1,10 +1,11 @@
 -- What is still to be printed of a replay in either form, and what a step promises. Assumes nothing.
-use Rattle.std.specs.Prelude.{ℕ, ◌+◌, ◌-◌, ◌*◌, ◌≤◌, ◌<◌, min, ◌≡◌, Bool, true, false, ◌&&◌, cond, List, [], ◌∷◌, ◌++◌, map, length, drop, leb, Float, Option, Some, None}
+use Rattle.std.specs.Prelude.{ℕ, ◌+◌, ◌-◌, ◌*◌, ◌≤◌, ◌<◌, min, ◌≡◌, Bool, true, false, ◌&&◌, List, [], ◌∷◌, ◌++◌, map, length, drop, leb, Float, Option, Some, None, Result, Ok, Err}
 use Rattle.model.specs.Framing.{B}
 use Rattle.model.specs.Receiver.{Lent, Call, State, Answer}
 use Rattle.model.specs.Tape as Tape
 use Rattle.model.specs.Tape.{words_of, call_at, found_call, found_bad}
 use Rattle.model.specs.Replay.{decimal, line, channel_line, incoming_line, clock_line}
+use Rattle.calls.specs.declared.Refusal.{Refusal}
 use Rattle.calls.specs.Views.{model_side, sizes_of}
 use Rattle.tape.specs.Answers.{Found, IsFound}
 use Rattle.receiver_state.specs.declared.Receiver.{Receiver}
@@ -21,12 +22,9 @@ use Rattle.replaying.specs.Printing.{left_of, left_behind}
 use Rattle.playback_parts.specs.declared.Form.{Form}
 use Rattle.playback_parts.specs.declared.Doing.{Doing}
 use Rattle.playback_parts.specs.declared.Playback.{Playback}
-use Rattle.playback.specs.declared.Turn.{Turn}
 use Rattle.playback.specs.declared.Wrote.{Wrote}
-use Rattle.playback.specs.declared.Step.{Step}
+use Rattle.playback.specs.declared.StepError.{StepError}
 use Rattle.playback_parts.specs.declared.facts.Facts.{Facts}
-use Rattle.playback_parts.specs.declared.facts.Kind.TheVariants as Kind
-use Rattle.playback_parts.specs.declared.parts.Part.{Part}
 use Rattle.playback_parts.specs.Facts.{FactsOf}
 use Rattle.playback_parts.specs.Parts.{part_ended, TextPut}
 use Rattle.playback_parts.specs.Forms.{answer_as, printed_from}
@@ -102,10 +100,6 @@ stage (Doing.Values from end) = 5 + (end - from)
 unfoldable pub steps_left : List ℕ → Playback → List Float → List Float → ℕ
 steps_left tape w fs samples = (length (words_of tape) - w.place) * (length fs + length samples + 6) + stage w.doing
 
--- the same of a loop of steps: none where it does not go on
-abbrev pub turns_left : List ℕ → Turn → List Float → List Float → ℕ
-turns_left tape t fs samples = cond t.going (1 + steps_left tape t.playback fs samples) 0
-
 -- ---- a step
 
 -- the calls to come, of those behind what stands at the place: a call there comes first, and where the tape ends none comes
@@ -155,12 +149,16 @@ pub record WrittenAs (form : Form) (tape : List ℕ) (w : Playback) (fs : List F
 abbrev pub AllUnchanged : List Float → List ℕ → List Float → List ℕ → List Float → List ℕ → List Float → List ℕ → Type 0
 AllUnchanged fs us samples text fs' us' samples' text' = Unchanged fs us samples fs' us' samples' × (text' ≡ text)
 
+-- what a step answers
+abbrev pub Step : Type 0
+Step = Result (Option Wrote) StepError
+
 abbrev pub DoneAs : Form → List ℕ → Playback → List Float → List ℕ → List Float → List ℕ → Step → List Float → List ℕ → List Float → List ℕ → Type 0
-DoneAs form tape w fs us samples text (Step.Written v) fs' us' samples' text' = WrittenAs form tape w fs us samples text v fs' us' samples' text'
-DoneAs form tape w fs us samples text Step.NoRoom fs' us' samples' text' = (room_for tape w samples text ≡ false) × AllUnchanged fs us samples text fs' us' samples' text'
-DoneAs form tape w fs us samples text Step.NotHeld fs' us' samples' text' = (values_held w.doing fs samples ≡ false) × AllUnchanged fs us samples text fs' us' samples' text'
-DoneAs form tape w fs us samples text (Step.Bad place) fs' us' samples' text' = (w.doing ≡ Doing.Call) × (call_at tape w.place ≡ found_bad place) × AllUnchanged fs us samples text fs' us' samples' text'
-DoneAs form tape w fs us samples text Step.Over fs' us' samples' text' = (w.doing ≡ Doing.Done) × AllUnchanged fs us samples text fs' us' samples' text'
+DoneAs form tape w fs us samples text (Ok (Some v)) fs' us' samples' text' = WrittenAs form tape w fs us samples text v fs' us' samples' text'
+DoneAs form tape w fs us samples text (Err StepError.NoRoom) fs' us' samples' text' = (room_for tape w samples text ≡ false) × AllUnchanged fs us samples text fs' us' samples' text'
+DoneAs form tape w fs us samples text (Err StepError.NotHeld) fs' us' samples' text' = (values_held w.doing fs samples ≡ false) × AllUnchanged fs us samples text fs' us' samples' text'
+DoneAs form tape w fs us samples text (Err (StepError.Bad bad)) fs' us' samples' text' = (w.doing ≡ Doing.Call) × (call_at tape w.place ≡ found_bad bad.place) × AllUnchanged fs us samples text fs' us' samples' text'
+DoneAs form tape w fs us samples text (Ok None) fs' us' samples' text' = (w.doing ≡ Doing.Done) × AllUnchanged fs us samples text fs' us' samples' text'
 
 -- with every line whole
 abbrev pub StepWritten : List ℕ → Playback → List Float → List ℕ → List Float → List ℕ → Wrote → List Float → List ℕ → List Float → List ℕ → Type 0
@@ -178,13 +176,13 @@ doing_after Left.Samples facts floats = Doing.Samples 0 facts.samples
 doing_after (Left.Values n) facts floats = Doing.Values (min facts.row floats) (min facts.row floats + min n (floats - min facts.row floats))
 
 -- what is left of a call's line: of a summary's nothing is
-abbrev pub left_as : Form → Code.Answer → Left
+abbrev pub left_as : Form → Result Code.Answer Refusal → Left
 left_as Form.Full a = left_behind a
 left_as Form.Summary a = Left.Nothing
 
 -- a row's values stand from their place on
-abbrev pub RowStands : Code.Answer → Facts → List Float → List Float → Type 0
-RowStands a facts fs values = (n : ℕ) → a ≡ Codes.Row n → values ≡ drop facts.row fs
+abbrev pub RowStands : Result Code.Answer Refusal → Facts → List Float → List Float → Type 0
+RowStands a facts fs values = (n : ℕ) → a ≡ Ok (Codes.Row n) → values ≡ drop facts.row fs
 
 pub record CallBegun (form : Form) (v : Answered) (facts : Facts) (fs : List Float) (text text' : List ℕ) (w : Wrote) : Type 0 where
   pub piece : List ℕ
@@ -193,12 +191,12 @@ pub record CallBegun (form : Form) (v : Answered) (facts : Facts) (fs : List Flo
   pub behind : w.playback ≡ record { receiver = v.receiver; place = facts.next; doing = doing_after (left_as form v.answer) facts (length fs) }
 
 -- how many values of a row lie inside of what is lent
-abbrev pub row_length : Code.Answer → Facts → ℕ → ℕ
-row_length (Codes.Refused why) facts floats = 0
-row_length Codes.Accepted facts floats = 0
-row_length (Codes.Played taken dropped short) facts floats = 0
-row_length Codes.NoRow facts floats = 0
-row_length (Codes.Row n) facts floats = min n (floats - min facts.row floats)
+abbrev pub row_length : Result Code.Answer Refusal → Facts → ℕ → ℕ
+row_length (Err why) facts floats = 0
+row_length (Ok Codes.Accepted) facts floats = 0
+row_length (Ok (Codes.Played taken dropped short)) facts floats = 0
+row_length (Ok Codes.NoRow) facts floats = 0
+row_length (Ok (Codes.Row n)) facts floats = min n (floats - min facts.row floats)
 
 -- a line was printed, and another thing comes next
 pub record Printed (w : Playback) (piece : List ℕ) (doing : Doing) (text text' : List ℕ) (v : Wrote) : Type 0 where
@@ -216,16 +214,9 @@ abbrev pub behind_part : Option ℕ → (ℕ → Doing) → Doing
 behind_part None again = Doing.Call
 behind_part (Some from) again = again from
 
-abbrev pub samples_left : Part → ℕ → Doing
-samples_left part end = behind_part part.next (λ from. Doing.Samples from end)
-
-abbrev pub values_left : Part → ℕ → Doing
-values_left part end = behind_part part.next (λ from. Doing.Values from end)
-
 -- a call was found at the place, and there is room for the beginning of its line
 pub record MakeReady (tape : List ℕ) (w : Playback) (found : Found) (facts : Facts) (text : List ℕ) : Type 0 where
   pub doing : w.doing ≡ Doing.Call
   pub room : 170 ≤ length text
   pub found_is : IsFound tape (call_at tape w.place) found
-  pub facts_are : FactsOf (sizes_of w.receiver.sizes) (call_at tape w.place) facts
-  pub is_call : facts.kind ≡ Kind.Call
+  pub facts_are : FactsOf (sizes_of w.receiver.sizes) (call_at tape w.place) (Ok (Some facts))

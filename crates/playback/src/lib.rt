@@ -4,7 +4,11 @@
 
 pub mod stepping;
 
+ghost use Rattle.std.specs.Prelude.{◌≡◌};
+ghost use Rattle.playback.specs.declared.StepError.TheVariants.{Bad};
+
 use playback_parts::Playback;
+use tape::BadWord;
 
 // What a step wrote.
 #[derive(Clone, Copy)]
@@ -13,23 +17,24 @@ pub struct Wrote {
     pub bytes: usize,
 }
 
-// What a step answers. Nothing is changed but by a step that wrote.
-#[derive(Clone, Copy)]
-pub enum Step {
-    Written(Wrote),
+// Why a step was not made.
+#[derive(Clone, Copy, PartialEq, Eq, Debug)]
+pub enum StepError {
     // Refusal 2: text of less than 170 bytes, or fewer samples than the call asks for.
     NoRoom,
     // Refusal 3: values that lie outside of what is lent.
     NotHeld,
     // Refusal 11: no call stands at that place.
-    Bad(usize),
-    // All is printed.
-    Over,
+    Bad(BadWord),
 }
 
-// Where a loop of steps is. A program goes on for as long as steps are written and it can do something with them.
-#[derive(Clone, Copy)]
-pub struct Turn {
-    pub playback: Playback,
-    pub going: bool,
+impl From<BadWord> for StepError {
+    ghost from_gives = { λ bad why. why ≡ Bad bad };
+
+    fn from(bad: BadWord) -> StepError {
+        StepError::Bad(bad)
+    }
 }
+
+// What a step answers: what it wrote, or none where all is printed. Nothing is changed but by a step that wrote.
+pub type Step = Result<Option<Wrote>, StepError>;

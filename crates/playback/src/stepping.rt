@@ -1,21 +1,22 @@
 // A step of a replay.
+// Lent one by one: of a struct of slices each contract had to say that each reference is kept, and each loop that each length is.
 ghost use Rattle.std.specs.Prelude.{◌&&◌, ◌≡◌, ◌≤◌, length, leb};
 ghost use Rattle.model.specs.Framing as Framing;
 ghost use Rattle.model.specs.Replay.{channel_line};
 ghost use Rattle.receiver_state.specs.Report.{counters_in, report_of};
-ghost use Rattle.playback.specs.Steps.{doing_after, row_length, samples_left, values_left, incoming_of, clock_of, CallBegun, Printed, MakeReady, DoneAs, StepDone};
+ghost use Rattle.playback.specs.Steps.{doing_after, row_length, incoming_of, clock_of, CallBegun, Printed, MakeReady, DoneAs, StepDone};
 ghost use Rattle.playback_parts.specs.declared.Doing.TheVariants as Doing;
 ghost use Rattle.playback_parts.specs.declared.Form.TheVariants as Form;
 
-use crate::{Step, Wrote};
-use calls::Side;
+use crate::{Step, StepError, Wrote};
+use calls::{Refusal, Side};
 use playback_parts::closing::{put_incoming, put_sound, put_times};
-use playback_parts::facts::{Facts, Kind, facts_of};
-use playback_parts::parts::{Part, put_part};
+use playback_parts::facts::{Facts, facts_of};
+use playback_parts::parts::put_part;
 use playback_parts::{Doing, Form, PIECE, Playback};
 use receiver_state::report::report_of;
 use receiver_state::{Answer, Answered};
-use replaying::acting::{Acted, act};
+use replaying::acting::{NotMade, act};
 use replaying::printing::{Left, begin_line};
 use summary_lines::put_summary;
 use tape::Found;
@@ -66,22 +67,15 @@ fn begun_full(v: Answered, facts: Facts, fs: &[f32], text: &mut [u8]) -> Wrote
 }
 
 // How many values of a row lie inside of what is lent.
-fn row_length(answer: Answer, facts: Facts, fs: &[f32]) -> usize
+fn row_length(answer: Result<Answer, Refusal>, facts: Facts, fs: &[f32]) -> usize
     ensures { result ≡ row_length answer facts (length fs.now) }
 {
     match answer {
-        Answer::Refused(_) => 0,
-        Answer::Accepted => 0,
-        Answer::Played {
-            taken: _,
-            dropped: _,
-            short: _,
-        } => 0,
-        Answer::NoRow => 0,
-        Answer::Row(n) => {
+        Ok(Answer::Row(n)) => {
             let from = facts.row.min(fs.len());
             n.min(fs.len() - from)
         }
+        _ => 0,
     }
 }
 
@@ -131,12 +125,10 @@ fn made(
     requires { MakeReady tape.now w found facts text.old }
     ensures { DoneAs form tape.now w fs.old us.old samples.old text.old result fs.new us.new samples.new text.new }
 {
-    let r = w.receiver;
-    let acted = act(r, fs, us, tape, found, samples);
-    match acted {
-        Acted::Made(v) => Step::Written(begun(v, facts, fs, text, form)),
-        Acted::NoRoom => Step::NoRoom,
-        Acted::NoCall => Step::NoRoom,
+    match act(w.receiver, fs, us, tape, found, samples) {
+        Ok(v) => Ok(Some(begun(v, facts, fs, text, form))),
+        // No call never comes, as the facts are those of one.
+        Err(NotMade::NoRoom | NotMade::NoCall) => Err(StepError::NoRoom),
     }
 }
 
@@ -200,26 +192,6 @@ fn held(values: &[f32], from: usize, end: usize) -> bool
     from <= end && end <= values.len()
 }
 
-fn samples_left(w: Playback, part: Part, end: usize) -> Wrote
-    ensures { result ≡ record { playback = record { receiver = w.receiver; place = w.place; doing = samples_left part end }; bytes = part.bytes } }
-{
-    let doing = match part.next {
-        Some(from) => Doing::Samples { from, end },
-        None => Doing::Call,
-    };
-    on(w, doing, part.bytes)
-}
-
-fn values_left(w: Playback, part: Part, end: usize) -> Wrote
-    ensures { result ≡ record { playback = record { receiver = w.receiver; place = w.place; doing = values_left part end }; bytes = part.bytes } }
-{
-    let doing = match part.next {
-        Some(from) => Doing::Values { from, end },
-        None => Doing::Call,
-    };
-    on(w, doing, part.bytes)
-}
-
 // ---- a step
 
 // The call at the place, or A's line where the calls have ended.
@@ -235,16 +207,10 @@ fn called(
     requires { (w.doing ≡ Doing.Call) × (170 ≤ length text.old) }
     ensures { DoneAs form tape.now w fs.old us.old samples.old text.old result fs.new us.new samples.new text.new }
 {
-    let r = w.receiver;
-    let z = r.sizes;
-    let place = w.place;
-    let found = tape::reader::call_at(tape, place);
-    let facts = facts_of(z, tape, found);
-    let kind = facts.kind;
-    match kind {
-        Kind::Call => made(w, fs, us, tape, found, facts, samples, text, form),
-        Kind::End => Step::Written(line_a(w, text)),
-        Kind::Bad(at) => Step::Bad(at),
+    let found = tape::reader::call_at(tape, w.place);
+    match facts_of(w.receiver.sizes, tape, found)? {
+        Some(facts) => made(w, fs, us, tape, found, facts, samples, text, form),
+        None => Ok(Some(line_a(w, text))),
     }
 }
 
@@ -261,29 +227,34 @@ pub fn step_as(
     ensures { DoneAs form tape.now w fs.old us.old samples.old text.old result fs.new us.new samples.new text.new }
 {
     if text.len() < PIECE {
-        return Step::NoRoom;
+        return Err(StepError::NoRoom);
     }
-    let doing = w.doing;
-    match doing {
+    match w.doing {
         Doing::Call => called(w, fs, us, tape, samples, text, form),
         Doing::Samples { from, end } => {
             if !held(samples, from, end) {
-                return Step::NotHeld;
+                return Err(StepError::NotHeld);
             }
             let part = put_part(text, samples, from, end);
-            Step::Written(samples_left(w, part, end))
+            let doing = part
+                .next
+                .map_or(Doing::Call, |from| Doing::Samples { from, end });
+            Ok(Some(on(w, doing, part.bytes)))
         }
         Doing::Values { from, end } => {
             if !held(fs, from, end) {
-                return Step::NotHeld;
+                return Err(StepError::NotHeld);
             }
             let part = put_part(text, fs, from, end);
-            Step::Written(values_left(w, part, end))
+            let doing = part
+                .next
+                .map_or(Doing::Call, |from| Doing::Values { from, end });
+            Ok(Some(on(w, doing, part.bytes)))
         }
-        Doing::LineB => Step::Written(line_b(w, text)),
-        Doing::LineI => Step::Written(line_i(w, text)),
-        Doing::LineC => Step::Written(line_c(w, text)),
-        Doing::Done => Step::Over,
+        Doing::LineB => Ok(Some(line_b(w, text))),
+        Doing::LineI => Ok(Some(line_i(w, text))),
+        Doing::LineC => Ok(Some(line_c(w, text))),
+        Doing::Done => Ok(None),
     }
 }
 

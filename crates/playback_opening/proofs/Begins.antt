@@ -19,9 +19,9 @@ use Rattle.receiver_state.specs.View.{lent_of}
 use Rattle.playback_parts.specs.declared.Form.{Form}
 use Rattle.playback_parts.specs.Forms.{printed_over}
 use Rattle.playback_parts.proofs.FormLaws.{printed_of_bad_tape, printed_of_refused_setup, printed_of_session}
-use Rattle.playback_opening.specs.declared.Beginning.{Beginning}
+use Rattle.playback_opening.specs.declared.NotBegun.{NotBegun}
 use Rattle.playback_parts.specs.Parts.{TextPut}
-use Rattle.playback_opening.specs.Beginnings.{SetupBegun, BegunAs, BegunTo}
+use Rattle.playback_opening.specs.Beginnings.{Beginning, SetupBegun, BegunAs, BegunTo}
 
 module _ (form : Form) (tape : List ℕ) (fs : List Float) (us text : List ℕ) where
   -- a refused tape
@@ -30,7 +30,7 @@ module _ (form : Form) (tape : List ℕ) (fs : List Float) (us text : List ℕ) 
   bad_read (bad_tape at) place is = let same : bad_at at ≡ bad_at place = cc in ap (λ (b : BadWord). bad_tape b.place) same
 
   pub bad_begun : (place n : ℕ) (text' : List ℕ) → Err (bad_at place) ≡ setup_answer (read tape) → TextPut (bad_tape_line place) text text' n
-      → BegunAs form (printed_over form (lent_of fs us) tape) tape fs us text (Beginning.Refused n) us text'
+      → BegunAs form (printed_over form (lent_of fs us) tape) tape fs us text (Err (NotBegun.Refused n)) us text'
   bad_begun place n text' is put = (rw (printed_of_bad_tape form (lent_of fs us) tape place (bad_read (read tape) place is)) put, refl)
 
   -- an accepted tape, and its setup
@@ -47,11 +47,11 @@ module _ (form : Form) (tape : List ℕ) (fs : List Float) (us text : List ℕ) 
 
   pub setup_begun : (x : Setup) (v : Beginning) (us' text' : List ℕ) → Ok x ≡ setup_answer (read tape)
       → SetupBegun (model_setup x.sizes x.a x.b) fs us text v us' text' → BegunAs form (printed_over form (lent_of fs us) tape) tape fs us text v us' text'
-  setup_begun x Beginning.NoRoom us' text' is begun = absurd begun
-  setup_begun x (Beginning.Refused n) us' text' is begun =
+  setup_begun x (Err NotBegun.NoRoom) us' text' is begun = absurd begun
+  setup_begun x (Err (NotBegun.Refused n)) us' text' is begun =
       let front = front_found (read tape) x refl is in
       (rw (printed_of_refused_setup form (lent_of fs us) tape front.whole begun.number front.is (rw (← front.setup) begun.refuses)) begun.put, begun.words_kept)
-  setup_begun x (Beginning.Playing w) us' text' is begun =
+  setup_begun x (Ok w) us' text' is begun =
       let front = front_found (read tape) x refl is in
       record {
         calls = front.whole.calls;
@@ -66,7 +66,7 @@ module _ (form : Form) (tape : List ℕ) (fs : List Float) (us text : List ℕ) 
 
 module _ (tape : List ℕ) (fs : List Float) (us text : List ℕ) where
   pub too_long_begun : (words n : ℕ) (text' : List ℕ) → leb (length tape) (4 * words) ≡ false → TextPut (bad_tape_line words) text text' n
-      → BegunTo (replay_within (lent_of fs us) words tape) tape fs us text (Beginning.Refused n) us text'
+      → BegunTo (replay_within (lent_of fs us) words tape) tape fs us text (Err (NotBegun.Refused n)) us text'
   unfolding replay_within
   too_long_begun words n text' longer put = (rw longer put, refl)
 

@@ -1,5 +1,5 @@
 -- How a replay begins. Assumes nothing.
-use Rattle.std.specs.Prelude.{ℕ, ◌<◌, ◌≡◌, List, length, Float}
+use Rattle.std.specs.Prelude.{ℕ, ◌<◌, ◌≡◌, List, length, Float, Result, Ok, Err}
 use Rattle.model.specs.Receiver as Model
 use Rattle.model.specs.Receiver.{Call}
 use Rattle.model.specs.Questions.{set_up, opened, not_opened}
@@ -11,7 +11,11 @@ use Rattle.playback_parts.specs.declared.Doing.TheVariants as Doing
 use Rattle.playback_parts.specs.declared.Playback.{Playback}
 use Rattle.playback_parts.specs.Forms.{printed_from}
 use Rattle.playback_parts.specs.Parts.{TextPut}
-use Rattle.playback_opening.specs.declared.Beginning.{Beginning}
+use Rattle.playback_opening.specs.declared.NotBegun.{NotBegun}
+
+-- a replay, or why it does not begin
+abbrev pub Beginning : Type 0
+Beginning = Result Playback NotBegun
 
 -- a receiver was set up, and the first call comes next
 pub record SetUp (setup : Model.Setup) (fs : List Float) (us text : List ℕ) (w : Playback) (us' text' : List ℕ) : Type 0 where
@@ -29,9 +33,9 @@ pub record SetupRefused (setup : Model.Setup) (fs : List Float) (us text : List 
   pub words_kept : us' ≡ us
 
 abbrev pub SetupBegun : Model.Setup → List Float → List ℕ → List ℕ → Beginning → List ℕ → List ℕ → Type 0
-SetupBegun setup fs us text Beginning.NoRoom us' text' = ⊥
-SetupBegun setup fs us text (Beginning.Refused n) us' text' = SetupRefused setup fs us text n us' text'
-SetupBegun setup fs us text (Beginning.Playing w) us' text' = SetUp setup fs us text w us' text'
+SetupBegun setup fs us text (Err NotBegun.NoRoom) us' text' = ⊥
+SetupBegun setup fs us text (Err (NotBegun.Refused n)) us' text' = SetupRefused setup fs us text n us' text'
+SetupBegun setup fs us text (Ok w) us' text' = SetUp setup fs us text w us' text'
 
 -- the calls of the tape come, and what they print in this form is the whole output
 pub record Plays (form : Form) (out tape : List ℕ) (fs : List Float) (us text : List ℕ) (w : Playback) (us' text' : List ℕ) : Type 0 where
@@ -44,9 +48,9 @@ pub record Plays (form : Form) (out tape : List ℕ) (fs : List Float) (us text 
 
 -- a replay of which all is printed, or that begins
 abbrev pub BegunAs : Form → List ℕ → List ℕ → List Float → List ℕ → List ℕ → Beginning → List ℕ → List ℕ → Type 0
-BegunAs form out tape fs us text Beginning.NoRoom us' text' = (length text < 170) × (us' ≡ us) × (text' ≡ text)
-BegunAs form out tape fs us text (Beginning.Refused n) us' text' = TextPut out text text' n × (us' ≡ us)
-BegunAs form out tape fs us text (Beginning.Playing w) us' text' = Plays form out tape fs us text w us' text'
+BegunAs form out tape fs us text (Err NotBegun.NoRoom) us' text' = (length text < 170) × (us' ≡ us) × (text' ≡ text)
+BegunAs form out tape fs us text (Err (NotBegun.Refused n)) us' text' = TextPut out text text' n × (us' ≡ us)
+BegunAs form out tape fs us text (Ok w) us' text' = Plays form out tape fs us text w us' text'
 
 -- with every line whole
 abbrev pub BegunTo : List ℕ → List ℕ → List Float → List ℕ → List ℕ → Beginning → List ℕ → List ℕ → Type 0

@@ -15,14 +15,13 @@ use calls::Refusal;
 use playback_parts::{Doing, PIECE, Playback};
 use tape::Setup;
 
-// How a replay begins.
-#[derive(Clone, Copy)]
-pub enum Beginning {
+// Why a replay does not begin.
+#[derive(Clone, Copy, PartialEq, Eq, Debug)]
+pub enum NotBegun {
     // Refusal 2: text of less than 170 bytes. Nothing was done.
     NoRoom,
     // The tape or its setup is refused: the line of so many bytes is all that is printed.
     Refused(usize),
-    Playing(Playback),
 }
 
 // The line of a refused setup.
@@ -42,16 +41,18 @@ pub fn put_bad_tape(text: &mut [u8], place: usize) -> usize
 }
 
 // Setup by what a tape says.
-pub fn set_up(setup: Setup, fs: &[f32], us: &mut [u32], text: &mut [u8]) -> Beginning
+pub fn set_up(
+    setup: Setup,
+    fs: &[f32],
+    us: &mut [u32],
+    text: &mut [u8],
+) -> Result<Playback, NotBegun>
     requires { 170 ≤ length text.old }
     ensures { SetupBegun (model_setup setup.sizes setup.a setup.b) fs.now us.old text.old result us.new text.new }
 {
-    let sizes = setup.sizes;
-    let a = setup.a;
-    let b = setup.b;
-    match receiver_setup::setup(sizes, a, b, fs, us) {
-        Err(why) => Beginning::Refused(put_refused(text, why)),
-        Ok(receiver) => Beginning::Playing(Playback {
+    match receiver_setup::setup(setup.sizes, setup.a, setup.b, fs, us) {
+        Err(why) => Err(NotBegun::Refused(put_refused(text, why))),
+        Ok(receiver) => Ok(Playback {
             receiver,
             place: 13,
             doing: Doing::Call,
@@ -60,14 +61,14 @@ pub fn set_up(setup: Setup, fs: &[f32], us: &mut [u32], text: &mut [u8]) -> Begi
 }
 
 // The areas may hold anything. Only the u32 area is written.
-pub fn begin(fs: &[f32], us: &mut [u32], tape: &[u8], text: &mut [u8]) -> Beginning
+pub fn begin(fs: &[f32], us: &mut [u32], tape: &[u8], text: &mut [u8]) -> Result<Playback, NotBegun>
     ensures { BegunTo (replay_over (lent_of fs.now us.old) tape.now) tape.now fs.now us.old text.old result us.new text.new }
 {
     if text.len() < PIECE {
-        return Beginning::NoRoom;
+        return Err(NotBegun::NoRoom);
     }
     match tape::reader::setup_of(tape) {
         Ok(setup) => set_up(setup, fs, us, text),
-        Err(bad) => Beginning::Refused(put_bad_tape(text, bad.place)),
+        Err(bad) => Err(NotBegun::Refused(put_bad_tape(text, bad.place))),
     }
 }

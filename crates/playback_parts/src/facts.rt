@@ -10,22 +10,12 @@ ghost use Rattle.playback_parts.specs.Facts.{StreamFound, CallFacts, FactsOf};
 use calls::{Side, Sizes};
 use receiver_datagrams::{Stream, stream_of};
 use receiver_state::readings::row_place;
-use tape::{Call, Found, Placed};
-
-// What stands at a tape's place.
-#[derive(Clone, Copy)]
-pub enum Kind {
-    Call,
-    End,
-    // No call; the place of the bad word.
-    Bad(usize),
-}
+use tape::{BadWord, Call, Found, Placed};
 
 // Of a call the channel that it is for, the place behind it, the samples that it asks for, and where a row that it completes
 // stands.
 #[derive(Clone, Copy)]
 pub struct Facts {
-    pub kind: Kind,
     pub side: Side,
     pub next: usize,
     pub samples: usize,
@@ -65,12 +55,11 @@ fn stream_facts(z: Sizes, stream: Stream) -> StreamFacts
     }
 }
 
-// Of a call of the clock, and of what is no call.
-fn of_clock(kind: Kind, next: usize) -> Facts
-    ensures { result ≡ record { kind = kind; side = Side.A; next = next; samples = 0; row = 0 } }
+// Of a call of the clock.
+fn of_clock(next: usize) -> Facts
+    ensures { result ≡ record { side = Side.A; next = next; samples = 0; row = 0 } }
 {
     Facts {
-        kind,
         side: Side::A,
         next,
         samples: 0,
@@ -90,7 +79,6 @@ fn call_facts(z: Sizes, tape: &[u8], placed: Placed) -> Facts
             let stream = stream_in(&tape[at..at + len]);
             let known = stream_facts(z, stream);
             Facts {
-                kind: Kind::Call,
                 side: known.side,
                 next,
                 samples: 0,
@@ -98,51 +86,43 @@ fn call_facts(z: Sizes, tape: &[u8], placed: Placed) -> Facts
             }
         }
         Call::Play { side, samples } => Facts {
-            kind: Kind::Call,
             side,
             next,
             samples: samples as usize,
             row: 0,
         },
         Call::Reset { side } => Facts {
-            kind: Kind::Call,
             side,
             next,
             samples: 0,
             row: 0,
         },
         Call::Set { side, settings: _ } => Facts {
-            kind: Kind::Call,
             side,
             next,
             samples: 0,
             row: 0,
         },
-        Call::Probe {
-            t1: _,
-            t2: _,
-            t3: _,
-            t4: _,
-        } => of_clock(Kind::Call, next),
+        Call::Probe(_) => of_clock(next),
         Call::OneWay {
             receive: _,
             send: _,
-        } => of_clock(Kind::Call, next),
+        } => of_clock(next),
         Call::Depth {
             samples: _,
             counts: _,
-        } => of_clock(Kind::Call, next),
-        Call::TransmitDepth { samples: _ } => of_clock(Kind::Call, next),
+        } => of_clock(next),
+        Call::TransmitDepth { samples: _ } => of_clock(next),
     }
 }
 
-pub fn facts_of(z: Sizes, tape: &[u8], found: Found) -> Facts
+// Of what stands at a place; none where the tape ends there.
+pub fn facts_of(z: Sizes, tape: &[u8], found: Found) -> Result<Option<Facts>, BadWord>
     requires { Inside tape.now found }
     ensures { FactsOf (sizes_of z) (model_found tape.now found) result }
 {
-    match found {
-        Ok(Some(placed)) => call_facts(z, tape, placed),
-        Ok(None) => of_clock(Kind::End, 0),
-        Err(bad) => of_clock(Kind::Bad(bad.place), 0),
+    match found? {
+        Some(placed) => Ok(Some(call_facts(z, tape, placed))),
+        None => Ok(None),
     }
 }

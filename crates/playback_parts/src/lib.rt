@@ -8,7 +8,8 @@ pub mod parts;
 
 use receiver_state::Receiver;
 
-// No piece is longer.
+// No piece is longer. That a text has room for one stays in the contracts: a type with that fact would hold a `&mut`, and each
+// contract had to say in its place that the reference is kept.
 pub const PIECE: usize = 170;
 
 // What is printed of a tape.

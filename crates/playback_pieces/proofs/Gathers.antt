@@ -1,23 +1,22 @@
 -- A step more: its piece stands behind those that are there, and the steps are one more. Assumes nothing.
-use Prim.Native.Nat.{ℕ, ◌+◌, ◌-◌, ◌≤◌, ◌<◌}
+use Prim.Native.Nat.{ℕ, ◌+◌, ◌-◌, ◌≤◌}
 use mathlib.Core.Path.{◌≡◌, refl, sym, ◌∙◌, ap}
-use mathlib.Core.Bool.{Bool, true, false}
+use mathlib.Core.Bool.{true}
 use mathlib.Core.List.{List, [], ◌++◌, append_assoc, append-nil}
 use native.Mathlib.Omega.{arith}
 use lib.ListN.{length, take, drop, length-append, length-drop, take-append-drop}
 use lib.Seq.{take_all, take_at, drop_at, drop-drop, drop-length}
 use lib.Ieee.{Float}
+use Rattle.std.specs.Prelude.{Some, None, Ok, Err}
 use borrow.Rule.Slice.PartMut.{put_mid, post_of}
 use Rattle.model.specs.Bytes.{placed}
 use Rattle.playback_parts.specs.declared.Form.{Form}
 use Rattle.playback_parts.specs.Parts.{TextPut}
 use Rattle.playback.specs.declared.Wrote.{Wrote}
-use Rattle.playback.specs.declared.Step.{Step}
-use Rattle.playback.specs.declared.Turn.{Turn}
-use Rattle.playback.specs.Steps.{steps_left, turns_left, DoneAs}
+use Rattle.playback.specs.declared.StepError.{StepError}
+use Rattle.playback.specs.Steps.{Step, DoneAs}
 use Rattle.playback.specs.Chains.{Moment, WroteAs, StepsAs}
 use Rattle.playback.specs.Chains as Chains
-use Rattle.playback_pieces.specs.declared.Next.TheVariants as Next
 use Rattle.playback_pieces.specs.Gathered.{comes_before, StepsBefore, here, wrote, moment, WritesNothing, WroteBehind, Further, Gathering}
 
 -- ---- the steps
@@ -101,20 +100,8 @@ module _ (form : Form) (tape : List ℕ) (p : Wrote) (fs : List Float) (us : Lis
   abbrev back : List ℕ
   back = put_mid p.bytes (length text - p.bytes) text behind
 
-  -- a step at the end of a text that wrote
-  pub wrote_behind : (v : Wrote) → EndStepped (Step.Written v) → WroteBehind form tape p fs us samples text (record { playback = v.playback; bytes = p.bytes + v.bytes }) fs' us' samples' back
-  wrote_behind v done =
-      record {
-        wrote = v;
-        behind = behind;
-        step = rw (lent_end p.bytes text) at done;
-        playback_is = refl;
-        bytes_is = refl;
-        target = end_back p.bytes text behind;
-      }
-
-  -- its bytes lie inside the text
-  pub wrote_inside : length behind ≡ length (take (length text - p.bytes) (drop p.bytes text)) → p.bytes ≤ length text → (v : Wrote) → EndStepped (Step.Written v)
+  -- the bytes of a step at the end of a text lie inside the text
+  pub wrote_inside : length behind ≡ length (take (length text - p.bytes) (drop p.bytes text)) → p.bytes ≤ length text → (v : Wrote) → EndStepped (Ok (Some v))
       → p.bytes + v.bytes ≤ length text
   wrote_inside as_long inside v done =
       let fits = inside_text done.piece _ behind v.bytes done.put as_long in
@@ -125,20 +112,20 @@ module _ (form : Form) (tape : List ℕ) (p : Wrote) (fs : List Float) (us : Lis
   kept same = end_back p.bytes text behind ∙ rw (same, lent_end p.bytes text) (take-append-drop p.bytes text)
 
   -- one that did not write
-  pub ended_there : (v : Step) → WritesNothing v → EndStepped v → Further form tape p fs us samples text Next.Ended fs' us' samples' back
-  ended_there (Step.Written v) none done = absurd none
-  ended_there Step.NoRoom none done =
+  pub ended_there : (v : Step) → WritesNothing v → EndStepped v → Further form tape p fs us samples text None fs' us' samples' back
+  ended_there (Ok (Some v)) none done = absurd none
+  ended_there (Ok None) none done =
       let u = done.1 in
-      (record { step = Step.NoRoom; writes_nothing = tt; done = (rw (lent_end p.bytes text) at done.0, ((refl, refl, refl), refl)) }, u.0.0, u.0.1, u.0.2, kept u.1)
-  ended_there Step.NotHeld none done =
+      (record { step = Ok None; writes_nothing = tt; done = (done.0, ((refl, refl, refl), refl)) }, u.0.0, u.0.1, u.0.2, kept u.1)
+  ended_there (Err StepError.NoRoom) none done =
       let u = done.1 in
-      (record { step = Step.NotHeld; writes_nothing = tt; done = (done.0, ((refl, refl, refl), refl)) }, u.0.0, u.0.1, u.0.2, kept u.1)
-  ended_there (Step.Bad place) none done =
+      (record { step = Err StepError.NoRoom; writes_nothing = tt; done = (rw (lent_end p.bytes text) at done.0, ((refl, refl, refl), refl)) }, u.0.0, u.0.1, u.0.2, kept u.1)
+  ended_there (Err StepError.NotHeld) none done =
+      let u = done.1 in
+      (record { step = Err StepError.NotHeld; writes_nothing = tt; done = (done.0, ((refl, refl, refl), refl)) }, u.0.0, u.0.1, u.0.2, kept u.1)
+  ended_there (Err (StepError.Bad bad)) none done =
       let u = done.2 in
-      (record { step = Step.Bad place; writes_nothing = tt; done = (done.0, done.1, ((refl, refl, refl), refl)) }, u.0.0, u.0.1, u.0.2, kept u.1)
-  ended_there Step.Over none done =
-      let u = done.1 in
-      (record { step = Step.Over; writes_nothing = tt; done = (done.0, ((refl, refl, refl), refl)) }, u.0.0, u.0.1, u.0.2, kept u.1)
+      (record { step = Err (StepError.Bad bad); writes_nothing = tt; done = (done.0, done.1, ((refl, refl, refl), refl)) }, u.0.0, u.0.1, u.0.2, kept u.1)
 
 -- ---- both together
 
@@ -184,15 +171,3 @@ module _ (form : Form) (tape : List ℕ) (until : ℕ) (m : Moment) (text : List
         no_more = rw w.playback_is (omega (arith, s.less, g.no_more));
         less = λ some. rw w.playback_is (omega (arith, s.less, g.no_more));
       }
-
--- ---- a loop of them
-
--- a turn that goes on only where fewer steps are left
-pub turn_gathered : (tape : List ℕ) (t u : Turn) (fs samples fs' samples' : List Float) → t.going ≡ true
-    → (u.going ≡ true → steps_left tape u.playback fs' samples' < steps_left tape t.playback fs samples)
-    → turns_left tape u fs' samples' < turns_left tape t fs samples
-turn_gathered tape t u fs samples fs' samples' going less = by_going u.going refl
-  where
-    by_going : (b : Bool) → u.going ≡ b → turns_left tape u fs' samples' < turns_left tape t fs samples
-    by_going true is = rw (is, going) (omega (arith, less is))
-    by_going false is = rw (is, going) (omega arith)

@@ -1,15 +1,13 @@
 -- Steps one after the other whose pieces stand one behind the other at the front of a text. Assumes nothing.
-use Rattle.std.specs.Prelude.{ℕ, ◌+◌, ◌≤◌, ◌<◌, ◌≡◌, Bool, true, false, List, [], ◌++◌, length, take, drop, ltb, Float}
+use Rattle.std.specs.Prelude.{ℕ, ◌+◌, ◌≤◌, ◌<◌, ◌≡◌, Bool, true, false, List, [], ◌++◌, length, take, drop, ltb, Float, Option, Some, None, Ok, Err}
 use Rattle.playback_parts.specs.declared.Form.{Form}
 use Rattle.playback_parts.specs.declared.Doing.{Doing}
 use Rattle.playback_parts.specs.declared.Playback.{Playback}
 use Rattle.playback_parts.specs.Parts.{TextPut}
 use Rattle.playback.specs.declared.Wrote.{Wrote}
-use Rattle.playback.specs.declared.Step.{Step}
-use Rattle.playback.specs.Steps.{steps_left, WrittenAs, DoneAs}
+use Rattle.playback.specs.Steps.{steps_left, WrittenAs, Step, DoneAs}
 use Rattle.playback.specs.Chains.{Moment, WroteAs}
 use Rattle.playback_pieces.specs.declared.Stop.{Stop}
-use Rattle.playback_pieces.specs.declared.Next.{Next}
 use Rattle.playback_pieces.specs.declared.Gathered.{Gathered}
 
 -- ---- how far the steps may go
@@ -40,11 +38,9 @@ pub data StepsBefore (form : Form) (until : ℕ) (tape : List ℕ) : Moment → 
 -- ---- a step that does not write
 
 abbrev pub WritesNothing : Step → Type 0
-WritesNothing (Step.Written v) = ⊥
-WritesNothing Step.NoRoom = Unit {0}
-WritesNothing Step.NotHeld = Unit {0}
-WritesNothing (Step.Bad place) = Unit {0}
-WritesNothing Step.Over = Unit {0}
+WritesNothing (Ok (Some v)) = ⊥
+WritesNothing (Ok None) = Unit {0}
+WritesNothing (Err why) = Unit {0}
 
 -- the step that comes next, with this text, writes nothing and changes nothing
 pub record EndsHere (form : Form) (tape : List ℕ) (m : Moment) (text : List ℕ) : Type 0 where
@@ -66,9 +62,9 @@ pub record WroteBehind (form : Form) (tape : List ℕ) (p : Wrote) (fs : List Fl
   pub bytes_is : q.bytes ≡ p.bytes + wrote.bytes
   pub target : text' ≡ take p.bytes text ++ behind
 
-abbrev pub Further : Form → List ℕ → Wrote → List Float → List ℕ → List Float → List ℕ → Next → List Float → List ℕ → List Float → List ℕ → Type 0
-Further form tape p fs us samples text (Next.Wrote q) fs' us' samples' text' = WroteBehind form tape p fs us samples text q fs' us' samples' text'
-Further form tape p fs us samples text Next.Ended fs' us' samples' text' =
+abbrev pub Further : Form → List ℕ → Wrote → List Float → List ℕ → List Float → List ℕ → Option Wrote → List Float → List ℕ → List Float → List ℕ → Type 0
+Further form tape p fs us samples text (Some q) fs' us' samples' text' = WroteBehind form tape p fs us samples text q fs' us' samples' text'
+Further form tape p fs us samples text None fs' us' samples' text' =
     EndsHere form tape (moment p.playback fs us samples) (drop p.bytes text)
     × (fs' ≡ fs)
     × (us' ≡ us)

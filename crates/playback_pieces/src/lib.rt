@@ -1,16 +1,16 @@
 // The steps of a replay one after the other, each piece of text behind the last one, as far as the lent bytes have room. So
-// a program writes many pieces at once.
+// a program writes many pieces at once. (What is lent goes in slice by slice, as in `playback::stepping`.)
 #![tactic(auto)]
 
 ghost use Rattle.std.specs.Prelude.{◌≡◌, ◌≤◌, length};
 ghost use Rattle.playback_pieces.specs.Gathered.{comes_before, moment, Further, AllGathered};
 
+use playback::Wrote;
 use playback::stepping::step_as;
-use playback::{Step, Wrote};
 use playback_parts::{Doing, Form, PIECE, Playback};
 
-// Why no further step was made.
-#[derive(Clone, Copy)]
+// Why no further step was made. (No Result: none of the three is a failure, and callers go on from two of them.)
+#[derive(Clone, Copy, PartialEq, Eq, Debug)]
 pub enum Stop {
     // There is no room for another piece.
     Full,
@@ -28,31 +28,17 @@ pub struct Gathered {
     pub stop: Stop,
 }
 
-// What one step did.
-#[derive(Clone, Copy)]
-pub enum Next {
-    // It wrote: so many bytes are there now.
-    Wrote(Wrote),
-    Ended,
-}
-
 // Whether what is printed next is no call, or a call before the place `until`.
 fn comes_before(w: Playback, until: usize) -> bool
     ensures { result ≡ comes_before w until }
 {
-    let doing = w.doing;
-    match doing {
+    match w.doing {
         Doing::Call => w.place < until,
-        Doing::Samples { from: _, end: _ } => true,
-        Doing::Values { from: _, end: _ } => true,
-        Doing::LineB => true,
-        Doing::LineI => true,
-        Doing::LineC => true,
-        Doing::Done => true,
+        _ => true,
     }
 }
 
-// One step, whose piece stands behind the bytes that are there.
+// One step, whose piece stands behind the bytes that are there; none where it writes nothing.
 fn one(
     p: Wrote,
     fs: &mut [f32],
@@ -61,34 +47,25 @@ fn one(
     samples: &mut [f32],
     text: &mut [u8],
     form: Form,
-) -> Next
+) -> Option<Wrote>
     requires { p.bytes ≤ length text.old }
     ensures { Further form tape.now p fs.old us.old samples.old text.old result fs.new us.new samples.new text.new }
 {
-    let w = p.playback;
     let at = p.bytes;
-    let stepped = step_as(w, fs, us, tape, samples, &mut text[at..], form);
-    match stepped {
-        Step::Written(v) => {
-            let playback = v.playback;
-            Next::Wrote(Wrote {
-                playback,
-                bytes: at + v.bytes,
-            })
-        }
-        Step::NoRoom => Next::Ended,
-        Step::NotHeld => Next::Ended,
-        Step::Bad(_) => Next::Ended,
-        Step::Over => Next::Ended,
-    }
+    let Ok(Some(v)) = step_as(p.playback, fs, us, tape, samples, &mut text[at..], form) else {
+        return None;
+    };
+    Some(Wrote {
+        bytes: at + v.bytes,
+        ..v
+    })
 }
 
 fn stopped(p: Wrote, stop: Stop) -> Gathered
     ensures { result ≡ record { playback = p.playback; bytes = p.bytes; stop = stop } }
 {
-    let playback = p.playback;
     Gathered {
-        playback,
+        playback: p.playback,
         bytes: p.bytes,
         stop,
     }
@@ -111,21 +88,14 @@ pub fn pieces(
         playback: w,
         bytes: 0,
     };
-    loop {
-        if text.len() - p.bytes < PIECE {
-            return stopped(p, Stop::Full);
-        }
+    while PIECE <= text.len() - p.bytes {
         if !comes_before(p.playback, until) {
             return stopped(p, Stop::Far);
         }
-        let next = one(p, fs, us, tape, samples, text, form);
-        match next {
-            Next::Wrote(q) => {
-                p = q;
-            }
-            Next::Ended => {
-                return stopped(p, Stop::Ended);
-            }
-        }
+        let Some(next) = one(p, fs, us, tape, samples, text, form) else {
+            return stopped(p, Stop::Ended);
+        };
+        p = next;
     }
+    stopped(p, Stop::Full)
 }

@@ -1,10 +1,11 @@
 -- A buffer that is moved on along the tape: a step's place stays inside the window, fewer steps are left of the window with each, and a replay whose place is
 -- counted from further on is the same replay of the tape. Assumes nothing.
 use Prim.Native.Nat.{ℕ, ◌+◌, ◌-◌, ◌*◌, ◌≤◌, ◌<◌, max}
-use mathlib.Core.Path.{◌≡◌, refl, sym, ap}
+use mathlib.Core.Path.{◌≡◌, sym}
 use mathlib.Core.Bool.{Bool}
 use mathlib.Core.List.{List}
 use native.Mathlib.Omega.{arith}
+use Rattle.std.specs.Prelude.{Some, None, Ok, Err}
 use lib.ListN.{length}
 use lib.Seq.{take-length}
 use lib.Ieee.{Float}
@@ -15,13 +16,10 @@ use Rattle.tape_windows.specs.Promises.{PlacesInside}
 use Rattle.tape_windows.proofs.CheckLaws.{places_inside}
 use Rattle.playback_parts.specs.declared.Form.{Form}
 use Rattle.playback_parts.specs.declared.Doing.{Doing}
-use Rattle.playback_parts.specs.declared.Doing.TheVariants as Doing
 use Rattle.playback_parts.specs.declared.Playback.{Playback}
 use Rattle.playback.specs.declared.Wrote.{Wrote}
-use Rattle.playback.specs.declared.Step.{Step}
-use Rattle.playback.specs.declared.Step.TheVariants as Step
-use Rattle.playback.specs.Steps.{place_next, steps_left, DoneAs}
-use Rattle.playback_windows.specs.declared.StepIn.TheVariants as stepIn
+use Rattle.playback.specs.declared.StepError.{StepError}
+use Rattle.playback.specs.Steps.{place_next, steps_left, Step, DoneAs}
 use Rattle.playback_windows.specs.Promises.{playback_from_start, StaysInside, SteppedIn, moved_on}
 
 -- ---- a step's place
@@ -39,14 +37,14 @@ next_inside window place Doing.Done f inside = omega arith
 
 module _ (form : Form) (window : List ℕ) (w : Playback) (fs : List Float) (us : List ℕ) (samples : List Float) (text : List ℕ) (fs' : List Float) (us' : List ℕ) (samples' : List Float) (text' : List ℕ) where
   pub step_stays_inside : (v : Step) → DoneAs form window w fs us samples text v fs' us' samples' text' → StaysInside window w.place v
-  step_stays_inside (Step.Written v) done = rw done.next_place (next_inside window w.place w.doing (call_at window w.place) (places_inside window w.place))
-  step_stays_inside Step.NoRoom done = tt
-  step_stays_inside Step.NotHeld done = tt
-  step_stays_inside (Step.Bad n) done = bad (places_inside window w.place)
+  step_stays_inside (Ok (Some v)) done = rw done.next_place (next_inside window w.place w.doing (call_at window w.place) (places_inside window w.place))
+  step_stays_inside (Err StepError.NoRoom) done = tt
+  step_stays_inside (Err StepError.NotHeld) done = tt
+  step_stays_inside (Err (StepError.Bad bad)) done = inside_there (places_inside window w.place)
     where
-      bad : PlacesInside window w.place (call_at window w.place) → 4 * n ≤ length window
-      bad inside = rw done.1 at inside
-  step_stays_inside Step.Over done = tt
+      inside_there : PlacesInside window w.place (call_at window w.place) → 4 * bad.place ≤ length window
+      inside_there inside = rw done.1 at inside
+  step_stays_inside (Ok None) done = tt
 
   -- ---- fewer steps are left of the window
 
@@ -57,7 +55,7 @@ module _ (form : Form) (window : List ℕ) (w : Playback) (fs : List Float) (us 
   from_the_front : (v : Playback) → playback_from_start 0 v ≡ v
   from_the_front v = let same : 0 + v.place ≡ v.place = omega arith in rw same
 
-  pub fewer_steps_of_the_window : (last : Bool) (v : Wrote) → SteppedIn form window last w fs us samples text (stepIn.Whole (Step.Written v)) fs' us' samples' text'
+  pub fewer_steps_of_the_window : (last : Bool) (v : Wrote) → SteppedIn form window last w fs us samples text (Some (Ok (Some v))) fs' us' samples' text'
       → steps_left window v.playback fs' samples' < steps_left window w fs samples
   fewer_steps_of_the_window last v done = rw (from_the_front w, from_the_front v.playback) at (done.stands window 0 (own_window last)).less
 

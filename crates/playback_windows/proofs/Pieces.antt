@@ -4,18 +4,16 @@ use mathlib.Core.Path.{◌≡◌, refl, ap}
 use mathlib.Core.Bool.{Bool, true, false}
 use mathlib.Core.List.{List}
 use native.Mathlib.Omega.{arith}
+use Rattle.std.specs.Prelude.{Some, Ok}
 use lib.ListN.{length}
 use borrow.Author.Tests.{ltb-true, le-leb}
 use Rattle.model.proofs.BoolLaws.{clash}
 use Rattle.tape_windows.specs.Windows.{WindowOf, longest_call, reaches}
 use Rattle.playback_parts.specs.declared.Form.{Form}
 use Rattle.playback_parts.specs.declared.Doing.{Doing}
-use Rattle.playback_parts.specs.declared.Doing.TheVariants as Doing
 use Rattle.playback_parts.specs.declared.Playback.{Playback}
-use Rattle.playback.specs.declared.Wrote.{Wrote}
-use Rattle.playback.specs.declared.Step.TheVariants as Step
 use Rattle.playback.specs.Steps.{makes_call}
-use Rattle.playback.specs.Chains.{Moment, WroteAs}
+use Rattle.playback.specs.Chains.{Moment}
 use Rattle.playback_pieces.specs.Gathered.{call_before, comes_before, StepsBefore, here, wrote}
 use Rattle.playback_windows.specs.Promises.{playback_from_start, wrote_from_start}
 use Rattle.playback_windows.specs.Through.{WroteBy, StepsBy, start, on}
@@ -68,8 +66,8 @@ module _ {window : List ℕ} {last : Bool} {until : ℕ} (reach : ReachOf window
             answered =
                 record {
                   stands = λ whole base win.
-                      step_of_the_tape win m.playback (far m.playback before) form m.floats m.words m.samples text n.floats n.words n.samples text' (Step.Written v) step;
-                  inside = step_stays_inside form window m.playback m.floats m.words m.samples text n.floats n.words n.samples text' (Step.Written v) step;
+                      step_of_the_tape win m.playback (far m.playback before) form m.floats m.words m.samples text n.floats n.words n.samples text' (Ok (Some v)) step;
+                  inside = step_stays_inside form window m.playback m.floats m.words m.samples text n.floats n.words n.samples text' (Ok (Some v)) step;
                 };
             is = refl;
           }
@@ -80,7 +78,7 @@ pub steps_stay_inside : {form : Form} {until : ℕ} {window : List ℕ} {m n : M
 steps_stay_inside here = omega arith
 steps_stay_inside {form} {window = window} (wrote {m = m} {n = n} {text = text} {text' = text'} {v = v} before step same steps) =
     let first : 4 * v.playback.place ≤ max (4 * m.playback.place) (length window) =
-    step_stays_inside form window m.playback m.floats m.words m.samples text n.floats n.words n.samples text' (Step.Written v) step
+    step_stays_inside form window m.playback m.floats m.words m.samples text n.floats n.words n.samples text' (Ok (Some v)) step
     in
     let rest = steps_stay_inside steps in
     let moved : n.playback.place ≡ v.playback.place = ap (λ (w : Playback). w.place) same in

@@ -11,24 +11,18 @@ use lib.Ieee.{Float}
 use Rattle.model.specs.Tape.{read}
 use Rattle.model.proofs.BoolLaws.{clash}
 use Rattle.tape.specs.declared.Setup.{Setup}
-use Rattle.std.specs.Prelude.{Ok}
+use Rattle.std.specs.Prelude.{Option, Some, None, Ok, Err}
 use Rattle.tape.specs.Answers.{setup_answer}
 use Rattle.tape_windows.specs.Windows.{longest_call, reaches}
 use Rattle.tape_windows.specs.Through.{WindowAt}
 use Rattle.receiver_state.specs.View.{lent_of}
 use Rattle.playback_parts.specs.declared.Form.{Form}
 use Rattle.playback_parts.specs.declared.Doing.{Doing}
-use Rattle.playback_parts.specs.declared.Doing.TheVariants as Doing
 use Rattle.playback_parts.specs.declared.Playback.{Playback}
 use Rattle.playback_parts.specs.Forms.{printed_over}
-use Rattle.playback_opening.specs.declared.Beginning.TheVariants as Beginning
 use Rattle.playback.specs.declared.Wrote.{Wrote}
-use Rattle.playback.specs.declared.Step.{Step}
-use Rattle.playback.specs.declared.Step.TheVariants as Step
-use Rattle.playback.specs.Steps.{makes_call, room_for, steps_left}
+use Rattle.playback.specs.Steps.{makes_call, room_for, Step, steps_left}
 use Rattle.playback.specs.Chains.{Moment}
-use Rattle.playback_windows.specs.declared.StepIn.{StepIn}
-use Rattle.playback_windows.specs.declared.StepIn.TheVariants as stepIn
 use Rattle.playback_windows.specs.Promises.{wrote_from_start, BegunIn}
 use Rattle.playback_windows.specs.Through.{SteppedBy, WroteBy, StepsBy, start, on}
 use Rattle.playback_windows.proofs.WindowedReplay.{wrote_stands, IsWrittenIn, windowed, windowed_never_stuck}
@@ -55,13 +49,13 @@ pub record Provided (form : Form) (whole : List ℕ) (m : Moment) : Type 0 where
   pub far : makes_call m.playback.doing ≡ true → reaches at.window (at.place + longest_call) at.last ≡ true
   pub bytes : List ℕ
   pub room : room_for whole m.playback m.samples bytes ≡ true
-  pub answer : StepIn
+  pub answer : Option Step
   pub after : Moment
   pub bytes' : List ℕ
   pub answered : SteppedBy form whole m at bytes answer after bytes'
 
 module _ (form : Form) (whole : List ℕ) (s : Setup) (front : Ok s ≡ setup_answer (read whole))
-    (fs : List Float) (us text us' text' : List ℕ) (w : Playback) (begun : BegunIn s fs us text (Beginning.Playing w) us' text') (samples : List Float) where
+    (fs : List Float) (us text us' text' : List ℕ) (w : Playback) (begun : BegunIn s fs us text (Ok w) us' text') (samples : List Float) where
   abbrev first : Moment
   first = record { playback = w; floats = fs; words = us'; samples = samples }
 
@@ -77,19 +71,17 @@ module _ (form : Form) (whole : List ℕ) (s : Setup) (front : Ok s ≡ setup_an
 
   module _ (provide : (printed : List ℕ) (m : Moment) → StepsBy form whole first printed m → (m.playback.doing ≡ Doing.Done → ⊥) → Provided form whole m) where
     -- the step that is to come writes, and fewer are left behind it
-    next : (m : Moment) (printed : List ℕ) → StepsBy form whole first printed m → (v : StepIn) (at : WindowAt whole m.playback.place) (bytes : List ℕ) (after : Moment) (bytes' : List ℕ)
+    next : (m : Moment) (printed : List ℕ) → StepsBy form whole first printed m → (v : Option Step) (at : WindowAt whole m.playback.place) (bytes : List ℕ) (after : Moment) (bytes' : List ℕ)
         → IsWrittenIn v → SteppedBy form whole m at bytes v after bytes'
         → ((more : List ℕ) (n : Moment) → StepsBy form whole first more n → left_at n < left_at m → Ended) → Ended
-    next m printed steps (stepIn.Whole (Step.Written a)) at bytes after bytes' is answered further =
+    next m printed steps (Some (Ok (Some a))) at bytes after bytes' is answered further =
         let v : Wrote = wrote_from_start at.base a in
         let n : Moment = record { playback = v.playback; floats = after.floats; words = after.words; samples = after.samples } in
         let link : WroteBy form whole m bytes v n bytes' = record { at = at; answer = a; answered = answered; is = refl } in
         further (printed ++ (take v.bytes bytes' ++ [])) n (steps_behind steps (on link refl start)) (wrote_stands form whole link).less
-    next m printed steps (stepIn.Whole Step.NoRoom) at bytes after bytes' is answered further = absurd is
-    next m printed steps (stepIn.Whole Step.NotHeld) at bytes after bytes' is answered further = absurd is
-    next m printed steps (stepIn.Whole (Step.Bad n)) at bytes after bytes' is answered further = absurd is
-    next m printed steps (stepIn.Whole Step.Over) at bytes after bytes' is answered further = absurd is
-    next m printed steps stepIn.Short at bytes after bytes' is answered further = absurd is
+    next m printed steps (Some (Ok None)) at bytes after bytes' is answered further = absurd is
+    next m printed steps (Some (Err why)) at bytes after bytes' is answered further = absurd is
+    next m printed steps None at bytes after bytes' is answered further = absurd is
 
     ends_from : (k : ℕ) (printed : List ℕ) (m : Moment) → StepsBy form whole first printed m → left_at m < k → Ended
     ends_from zero printed m steps few = absurd (omega (arith, few))

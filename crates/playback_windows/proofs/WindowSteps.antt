@@ -2,12 +2,12 @@
 -- tape's where the window reaches it, and as many words lie behind it in the tape as in the window, and those behind the window. Assumes nothing.
 use Prim.Native.Nat.{ℕ, ◌+◌, ◌-◌, ◌*◌, ◌≤◌, ◌<◌}
 use mathlib.Core.Path.{◌≡◌, refl, sym, ap, ◌∙◌}
-use mathlib.Core.Bool.{Bool, true, false, ◌&&◌}
-use mathlib.Core.List.{List, ◌++◌}
+use mathlib.Core.Bool.{Bool, true}
+use mathlib.Core.List.{List}
 use native.Mathlib.Omega.{arith}
 use native.Mathlib.Nat.{add-mul}
+use Rattle.std.specs.Prelude.{Some, None, Ok, Err}
 use lib.ListN.{length}
-use lib.Dec.{leb}
 use lib.Ieee.{Float}
 use Rattle.model.specs.Receiver.{Call}
 use Rattle.model.specs.Tape as Tape
@@ -19,12 +19,10 @@ use Rattle.tape_windows.proofs.WindowLaws.{window_has_the_call}
 use Rattle.tape_windows.proofs.CheckLaws.{places_inside}
 use Rattle.playback_parts.specs.declared.Form.{Form}
 use Rattle.playback_parts.specs.declared.Doing.{Doing}
-use Rattle.playback_parts.specs.declared.Doing.TheVariants as Doing
 use Rattle.playback_parts.specs.declared.Playback.{Playback}
 use Rattle.playback.specs.declared.Wrote.{Wrote}
-use Rattle.playback.specs.declared.Step.{Step}
-use Rattle.playback.specs.declared.Step.TheVariants as Step
-use Rattle.playback.specs.Steps.{remaining_of, makes_call, asked_next, asked_in, calls_now, place_next, stage, steps_left, CallDone, WrittenAs, DoneAs}
+use Rattle.playback.specs.declared.StepError.{StepError}
+use Rattle.playback.specs.Steps.{remaining_of, makes_call, asked_next, asked_in, calls_now, place_next, stage, steps_left, CallDone, WrittenAs, Step, DoneAs}
 use Rattle.playback_windows.specs.Promises.{playback_from_start, wrote_from_start, step_from_start}
 
 -- ---- what a step asks of what stands at its place
@@ -178,11 +176,11 @@ module _ {whole : List ℕ} {base : ℕ} {window : List ℕ} {last : Bool} (win 
     pub step_of_the_tape : (v : Step) → DoneAs form window w fs us samples text v fs' us' samples' text'
         → DoneAs form whole (playback_from_start base w) fs us samples text (step_from_start base v) fs' us' samples' text'
     unfolding from_start
-    step_of_the_tape (Step.Written v) done = written_in_the_tape v done
-    step_of_the_tape Step.NoRoom done = (rw (asked_alike base here there w.doing same_call) done.0, done.1)
-    step_of_the_tape Step.NotHeld done = done
-    step_of_the_tape (Step.Bad n) done = (done.0, bad, done.2)
+    step_of_the_tape (Ok (Some v)) done = written_in_the_tape v done
+    step_of_the_tape (Err StepError.NoRoom) done = (rw (asked_alike base here there w.doing same_call) done.0, done.1)
+    step_of_the_tape (Err StepError.NotHeld) done = done
+    step_of_the_tape (Err (StepError.Bad bad)) done = (done.0, stands, done.2)
       where
-        bad : there ≡ found_bad (base + n)
-        bad = same_call (rw done.0) ∙ rw done.1
-    step_of_the_tape Step.Over done = done
+        stands : there ≡ found_bad (base + bad.place)
+        stands = same_call (rw done.0) ∙ rw done.1
+    step_of_the_tape (Ok None) done = done

@@ -1,21 +1,18 @@
 -- What a step through a window promises of every tape that it can be a window of, and how a replay by windows begins. Assumes nothing.
-use Rattle.std.specs.Prelude.{ℕ, ◌+◌, ◌-◌, ◌*◌, ◌≤◌, ◌<◌, max, ◌≡◌, Bool, true, List, length, Float}
+use Rattle.std.specs.Prelude.{ℕ, ◌+◌, ◌-◌, ◌*◌, ◌≤◌, ◌<◌, max, ◌≡◌, Bool, true, List, length, Float, Option, Some, None, Ok, Err}
 use Rattle.model.specs.Replay.{bad_tape_line}
 use Rattle.tape.specs.declared.Setup.{Setup}
+use Rattle.tape.specs.Answers.{bad_at}
 use Rattle.tape_windows.specs.Windows.{WindowOf, longest_call, EndsBefore}
 use Rattle.calls.specs.Views.{model_setup}
 use Rattle.playback_parts.specs.declared.Form.{Form}
 use Rattle.playback_parts.specs.declared.Playback.{Playback}
 use Rattle.playback_parts.specs.Parts.{TextPut}
-use Rattle.playback_opening.specs.declared.Beginning.{Beginning}
-use Rattle.playback_opening.specs.declared.Beginning.TheVariants as Beginning
-use Rattle.playback_opening.specs.Beginnings.{SetUp, SetupRefused}
+use Rattle.playback_opening.specs.declared.NotBegun.{NotBegun}
+use Rattle.playback_opening.specs.Beginnings.{Beginning, SetUp, SetupRefused}
 use Rattle.playback.specs.declared.Wrote.{Wrote}
-use Rattle.playback.specs.declared.Step.{Step}
-use Rattle.playback.specs.declared.Step.TheVariants as Step
-use Rattle.playback.specs.Steps.{makes_call, AllUnchanged, DoneAs}
-use Rattle.playback_windows.specs.declared.StepIn.{StepIn}
-use Rattle.playback_windows.specs.declared.StepIn.TheVariants as stepIn
+use Rattle.playback.specs.declared.StepError.{StepError}
+use Rattle.playback.specs.Steps.{makes_call, AllUnchanged, Step, DoneAs}
 
 -- ---- places counted from the tape's first word, where the window's first word is the tape's word `base`
 
@@ -26,11 +23,11 @@ abbrev pub wrote_from_start : ℕ → Wrote → Wrote
 wrote_from_start base v = record { playback = playback_from_start base v.playback; bytes = v.bytes }
 
 abbrev pub step_from_start : ℕ → Step → Step
-step_from_start base (Step.Written v) = Step.Written (wrote_from_start base v)
-step_from_start base Step.NoRoom = Step.NoRoom
-step_from_start base Step.NotHeld = Step.NotHeld
-step_from_start base (Step.Bad n) = Step.Bad (base + n)
-step_from_start base Step.Over = Step.Over
+step_from_start base (Ok (Some v)) = Ok (Some (wrote_from_start base v))
+step_from_start base (Ok None) = Ok None
+step_from_start base (Err StepError.NoRoom) = Err StepError.NoRoom
+step_from_start base (Err StepError.NotHeld) = Err StepError.NotHeld
+step_from_start base (Err (StepError.Bad bad)) = Err (StepError.Bad (bad_at (base + bad.place)))
 
 -- ---- a step
 
@@ -42,11 +39,11 @@ pub record ShortOf (window : List ℕ) (last : Bool) (w : Playback) (fs : List F
 
 -- a place that is answered does not lie past the window's end, unless the place asked for does
 abbrev pub StaysInside : List ℕ → ℕ → Step → Type 0
-StaysInside window place (Step.Written v) = 4 * v.playback.place ≤ max (4 * place) (length window)
-StaysInside window place Step.NoRoom = Unit {0}
-StaysInside window place Step.NotHeld = Unit {0}
-StaysInside window place (Step.Bad n) = 4 * n ≤ length window
-StaysInside window place Step.Over = Unit {0}
+StaysInside window place (Ok (Some v)) = 4 * v.playback.place ≤ max (4 * place) (length window)
+StaysInside window place (Ok None) = Unit {0}
+StaysInside window place (Err StepError.NoRoom) = Unit {0}
+StaysInside window place (Err StepError.NotHeld) = Unit {0}
+StaysInside window place (Err (StepError.Bad bad)) = 4 * bad.place ≤ length window
 
 -- the step through the window is the step through each tape that it can be a window of
 pub record StepOf (form : Form) (window : List ℕ) (last : Bool) (w : Playback) (fs : List Float) (us : List ℕ) (samples : List Float) (text : List ℕ) (v : Step) (fs' : List Float) (us' : List ℕ) (samples' : List Float) (text' : List ℕ) : Type 0 where
@@ -54,9 +51,9 @@ pub record StepOf (form : Form) (window : List ℕ) (last : Bool) (w : Playback)
       → DoneAs form whole (playback_from_start base w) fs us samples text (step_from_start base v) fs' us' samples' text'
   pub inside : StaysInside window w.place v
 
-abbrev pub SteppedIn : Form → List ℕ → Bool → Playback → List Float → List ℕ → List Float → List ℕ → StepIn → List Float → List ℕ → List Float → List ℕ → Type 0
-SteppedIn form window last w fs us samples text (stepIn.Whole v) fs' us' samples' text' = StepOf form window last w fs us samples text v fs' us' samples' text'
-SteppedIn form window last w fs us samples text stepIn.Short fs' us' samples' text' = ShortOf window last w fs us samples text fs' us' samples' text'
+abbrev pub SteppedIn : Form → List ℕ → Bool → Playback → List Float → List ℕ → List Float → List ℕ → Option Step → List Float → List ℕ → List Float → List ℕ → Type 0
+SteppedIn form window last w fs us samples text (Some v) fs' us' samples' text' = StepOf form window last w fs us samples text v fs' us' samples' text'
+SteppedIn form window last w fs us samples text None fs' us' samples' text' = ShortOf window last w fs us samples text fs' us' samples' text'
 
 -- the place counted from so many words further on; one that lies before them stays at the front
 abbrev pub moved_on : Playback → ℕ → Playback
@@ -66,12 +63,11 @@ moved_on w words = record { receiver = w.receiver; place = w.place - words; doin
 
 -- by the setup at a tape's front
 abbrev pub BegunIn : Setup → List Float → List ℕ → List ℕ → Beginning → List ℕ → List ℕ → Type 0
-BegunIn x fs us text Beginning.NoRoom us' text' = (length text < 170) × (us' ≡ us) × (text' ≡ text)
-BegunIn x fs us text (Beginning.Refused n) us' text' = SetupRefused (model_setup x.sizes x.a x.b) fs us text n us' text'
-BegunIn x fs us text (Beginning.Playing w) us' text' = SetUp (model_setup x.sizes x.a x.b) fs us text w us' text'
+BegunIn x fs us text (Err NotBegun.NoRoom) us' text' = (length text < 170) × (us' ≡ us) × (text' ≡ text)
+BegunIn x fs us text (Err (NotBegun.Refused n)) us' text' = SetupRefused (model_setup x.sizes x.a x.b) fs us text n us' text'
+BegunIn x fs us text (Ok w) us' text' = SetUp (model_setup x.sizes x.a x.b) fs us text w us' text'
 
 -- of a tape that is refused at a place
-abbrev pub RefusedIn : ℕ → List ℕ → Beginning → List ℕ → Type 0
-RefusedIn place text Beginning.NoRoom text' = (length text < 170) × (text' ≡ text)
-RefusedIn place text (Beginning.Refused n) text' = TextPut (bad_tape_line place) text text' n
-RefusedIn place text (Beginning.Playing w) text' = ⊥
+abbrev pub RefusedIn : ℕ → List ℕ → NotBegun → List ℕ → Type 0
+RefusedIn place text NotBegun.NoRoom text' = (length text < 170) × (text' ≡ text)
+RefusedIn place text (NotBegun.Refused n) text' = TextPut (bad_tape_line place) text text' n

@@ -1,14 +1,12 @@
 -- A replay that goes through a tape by windows of it, whichever they are: its steps one after the other, each with what `step_in` promised. Places are
 -- counted from the tape's first word. Assumes nothing.
-use Rattle.std.specs.Prelude.{ℕ, ◌≡◌, List, [], ◌++◌, take}
+use Rattle.std.specs.Prelude.{ℕ, ◌≡◌, List, [], ◌++◌, take, Option, Some, Ok}
 use Rattle.tape_windows.specs.Through.{WindowAt}
 use Rattle.playback_parts.specs.declared.Form.{Form}
 use Rattle.playback_parts.specs.declared.Playback.{Playback}
 use Rattle.playback.specs.declared.Wrote.{Wrote}
-use Rattle.playback.specs.declared.Step.TheVariants as Step
+use Rattle.playback.specs.Steps.{Step}
 use Rattle.playback.specs.Chains.{Moment}
-use Rattle.playback_windows.specs.declared.StepIn.{StepIn}
-use Rattle.playback_windows.specs.declared.StepIn.TheVariants as stepIn
 use Rattle.playback_windows.specs.Promises.{wrote_from_start, SteppedIn}
 
 -- a replay whose place in a window is this
@@ -16,7 +14,7 @@ abbrev pub placed_at : ℕ → Playback → Playback
 placed_at place w = record { receiver = w.receiver; place = place; doing = w.doing }
 
 -- what `step_in` promised of a window that has the moment's place
-abbrev pub SteppedBy : (form : Form) (whole : List ℕ) (m : Moment) → WindowAt whole m.playback.place → List ℕ → StepIn → Moment → List ℕ → Type 0
+abbrev pub SteppedBy : (form : Form) (whole : List ℕ) (m : Moment) → WindowAt whole m.playback.place → List ℕ → Option Step → Moment → List ℕ → Type 0
 SteppedBy form whole m at text v n text' =
     SteppedIn form at.window at.last (placed_at at.place m.playback) m.floats m.words m.samples text v n.floats n.words n.samples text'
 
@@ -24,7 +22,7 @@ SteppedBy form whole m at text v n text' =
 pub record WroteBy (form : Form) (whole : List ℕ) (m : Moment) (text : List ℕ) (v : Wrote) (n : Moment) (text' : List ℕ) : Type 0 where
   pub at : WindowAt whole m.playback.place
   pub answer : Wrote
-  pub answered : SteppedBy form whole m at text (stepIn.Whole (Step.Written answer)) n text'
+  pub answered : SteppedBy form whole m at text (Some (Ok (Some answer))) n text'
   pub is : wrote_from_start at.base answer ≡ v
 
 -- the bytes that steps by windows wrote, from one moment to another

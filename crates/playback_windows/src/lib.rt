@@ -1,6 +1,6 @@
 // The replay of a tape of which only a window is in memory. A replay's place is counted from the window's first word; where that word stands
 // in the whole tape no function asks. What a step promises holds of every tape that the window can be of. No function asks anything of
-// its caller.
+// its caller. (What is lent goes in slice by slice, as in `playback::stepping`.)
 #![tactic(auto)]
 
 ghost use Rattle.std.specs.Prelude.{◌≡◌};
@@ -11,7 +11,7 @@ ghost use Rattle.playback_windows.specs.Pieces.{ReachOf, PiecesIn};
 
 use playback::Step;
 use playback::stepping::step_as;
-use playback_opening::{Beginning, put_bad_tape, set_up};
+use playback_opening::{NotBegun, put_bad_tape, set_up};
 use playback_parts::{Doing, Form, PIECE, Playback};
 use playback_pieces::{Gathered, pieces};
 use tape::Setup;
@@ -20,31 +20,15 @@ use tape_windows::{LONGEST_CALL, has_words};
 // No place lies behind it.
 const EVERY_PLACE: usize = 0xffff_ffff_ffff_ffff;
 
-// What a step through a window answers.
-#[derive(Clone, Copy)]
-pub enum StepIn {
-    // As through the whole tape, with places counted from the window's first word.
-    Whole(Step),
-    // A call comes next, and the window ends too early to have it whole, and is not the last. Nothing is changed.
-    Short,
-}
-
 // Whether a call comes next, or the tape's end.
 fn makes_call(doing: Doing) -> bool
     ensures { result ≡ makes_call doing }
 {
-    match doing {
-        Doing::Call => true,
-        Doing::Samples { from: _, end: _ } => false,
-        Doing::Values { from: _, end: _ } => false,
-        Doing::LineB => false,
-        Doing::LineI => false,
-        Doing::LineC => false,
-        Doing::Done => false,
-    }
+    matches!(doing, Doing::Call)
 }
 
-// The next piece of what is printed of the tape, at the front of the text.
+// The next piece of what is printed of the tape, at the front of the text: as through the whole tape, with places counted from the window's
+// first word. None: a call comes next, and the window ends too early to have it whole, and is not the last. Nothing is changed then.
 pub fn step_in(
     w: Playback,
     fs: &mut [f32],
@@ -54,17 +38,13 @@ pub fn step_in(
     samples: &mut [f32],
     text: &mut [u8],
     form: Form,
-) -> StepIn
+) -> Option<Step>
     ensures { SteppedIn form window.now last w fs.old us.old samples.old text.old result fs.new us.new samples.new text.new }
 {
-    let doing = w.doing;
-    let place = w.place;
-    if makes_call(doing) {
-        if !has_words(window, place, LONGEST_CALL, last) {
-            return StepIn::Short;
-        }
+    if makes_call(w.doing) && !has_words(window, w.place, LONGEST_CALL, last) {
+        return None;
     }
-    StepIn::Whole(step_as(w, fs, us, window, samples, text, form))
+    Some(step_as(w, fs, us, window, samples, text, form))
 }
 
 // The first place from which on the window may not have a call whole.
@@ -103,38 +83,33 @@ pub fn pieces_in(
 pub fn moved_on(w: Playback, words: usize) -> Playback
     ensures { result ≡ moved_on w words }
 {
-    let receiver = w.receiver;
-    let doing = w.doing;
-    if w.place < words {
-        return Playback {
-            receiver,
-            place: 0,
-            doing,
-        };
-    }
     Playback {
-        receiver,
-        place: w.place - words,
-        doing,
+        place: w.place.saturating_sub(words),
+        ..w
     }
 }
 
 // The beginning, by the setup that stands at the tape's front, once its calls are accepted. Only the u32 area is written.
-pub fn begin_in(setup: Setup, fs: &[f32], us: &mut [u32], text: &mut [u8]) -> Beginning
+pub fn begin_in(
+    setup: Setup,
+    fs: &[f32],
+    us: &mut [u32],
+    text: &mut [u8],
+) -> Result<Playback, NotBegun>
     ensures { BegunIn setup fs.now us.old text.old result us.new text.new }
 {
     if text.len() < PIECE {
-        return Beginning::NoRoom;
+        return Err(NotBegun::NoRoom);
     }
     set_up(setup, fs, us, text)
 }
 
 // A tape that is refused at a place, which is counted from the tape's first word.
-pub fn refuse_in(text: &mut [u8], place: usize) -> Beginning
+pub fn refuse_in(text: &mut [u8], place: usize) -> NotBegun
     ensures { RefusedIn place text.old result text.new }
 {
     if text.len() < PIECE {
-        return Beginning::NoRoom;
+        return NotBegun::NoRoom;
     }
-    Beginning::Refused(put_bad_tape(text, place))
+    NotBegun::Refused(put_bad_tape(text, place))
 }

@@ -2,6 +2,8 @@
 #![tactic(auto)]
 
 use calls::Side;
+use std::fmt;
+use std::fmt::Write;
 use std::io::IsTerminal;
 use tape::Call;
 
@@ -10,6 +12,18 @@ const STDERR_FILENO: i32 = 2;
 
 // Samples in a minute of sound.
 const MINUTE: u64 = 2880000;
+
+// Standard error, by its descriptor: the runtime's handle of it would be asked of each caller that tells of a window. A piece
+// that cannot be written is left out.
+#[derive(Clone, Copy)]
+struct Errors;
+
+impl fmt::Write for Errors {
+    fn write_str(&mut self, piece: &str) -> fmt::Result {
+        io::write_all(STDERR_FILENO, piece.as_bytes());
+        Ok(())
+    }
+}
 
 // What is told.
 #[derive(Clone, Copy)]
@@ -64,16 +78,15 @@ fn heard(p: Shown, call: Call) -> Shown {
 fn heard_all(p: Shown, window: &[u8], from: usize, to: usize) -> Shown {
     let mut heard_so_far = p;
     let mut at = from;
-    while at < to {
-        let Ok(Some(placed)) = tape::reader::call_at(window, at) else {
-            return heard_so_far;
-        };
-        heard_so_far = heard(heard_so_far, placed.call);
-        // Never so, as a call takes a word at least: a test in place of the tape's laws keeps this loop's end plain.
-        if placed.next <= at {
-            return heard_so_far;
+    // There are no more calls than words.
+    for _ in from..to {
+        match tape::reader::call_at(window, at) {
+            Ok(Some(placed)) if at < to => {
+                heard_so_far = heard(heard_so_far, placed.call);
+                at = placed.next;
+            }
+            _ => return heard_so_far,
         }
-        at = placed.next;
     }
     heard_so_far
 }
@@ -92,16 +105,19 @@ fn minutes(p: Shown) -> u64 {
 
 // Where the output goes to the terminal too, each is a line of its own; else it stands over the last.
 fn tell(p: Shown, percent: usize) {
-    if !p.lines {
-        io::write_all(STDERR_FILENO, b"\r");
-    }
-    io::print_decimal(STDERR_FILENO, percent as u64);
-    io::write_all(STDERR_FILENO, b" % of the file, ");
-    io::print_decimal(STDERR_FILENO, minutes(p));
-    io::write_all(STDERR_FILENO, b" minutes of sound");
-    if p.lines {
-        io::write_all(STDERR_FILENO, b"\n");
-    }
+    let minutes = minutes(p);
+    let mut errors = Errors;
+    let _ = if p.lines {
+        writeln!(
+            errors,
+            "{percent} % of the file, {minutes} minutes of sound"
+        )
+    } else {
+        write!(
+            errors,
+            "\r{percent} % of the file, {minutes} minutes of sound"
+        )
+    };
 }
 
 // The calls of a window from one place up to another were made, and so many bytes of the file are done with.
@@ -129,7 +145,7 @@ pub fn further(
 pub fn end(p: Progress) {
     if let Some(shown) = p {
         if !shown.lines {
-            io::write_all(STDERR_FILENO, b"\n");
+            let _ = Errors.write_str("\n");
         }
     }
 }

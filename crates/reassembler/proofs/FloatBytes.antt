@@ -1,4 +1,4 @@
--- The floats of bytes: how many they are, and which stands at a place. Assumes nothing.
+-- The floats of bytes: how many they are, which stands at a place, and what the library reads there. Assumes nothing.
 use mathlib.Core.Path.{◌≡◌, refl}
 use mathlib.Core.List.{List, [], ◌∷◌}
 use Prim.Native.Nat.{ℕ, zero, suc, ◌+◌, ◌*◌, ◌/◌, ◌≤◌, ◌<◌}
@@ -6,6 +6,8 @@ use native.Mathlib.Omega.{arith}
 use lib.ListN.{length, get_or}
 use lib.Seq.{drop-cons}
 use lib.Ieee.{Float}
+use mir.Syntax.{w32}
+use Rattle.std.specs.Int.{from_le_bytes}
 use Rattle.model.specs.Bytes.{little_endian, part}
 use Rattle.model.specs.Floats.{from_bits}
 use Rattle.model.specs.Row.{floats_of}
@@ -30,16 +32,15 @@ float_at (a ∷ b ∷ c ∷ []) j e h = absurd (omega arith)
 float_at (a ∷ b ∷ c ∷ d ∷ rest) zero e h = refl
 float_at (a ∷ b ∷ c ∷ d ∷ rest) (suc j) e h = rw (four_more j) (float_at rest j e (omega arith))
 
-pub two_bytes : (at : ℕ) (bytes : List ℕ) → at + 2 ≤ length bytes → little_endian (part at 2 bytes) ≡ get_or bytes at 0 + 256 * get_or bytes (at + 1) 0
+-- what the library reads of four bytes
+pub four_bytes : (at : ℕ) (bytes : List ℕ) → at + 4 ≤ length bytes
+    → from_le_bytes w32 (get_or bytes at 0 ∷ get_or bytes (at + 1) 0 ∷ get_or bytes (at + 2) 0 ∷ get_or bytes (at + 3) 0 ∷ []) ≡ little_endian (part at 4 bytes)
 unfolding little_endian
-two_bytes at bytes h =
-    let next : suc at ≡ at + 1 = omega arith in
-    rw (drop-cons bytes at 0 (omega arith), drop-cons bytes (suc at) 0 (omega arith), next) (omega arith)
-
-pub two_halves : (at : ℕ) (bytes : List ℕ) → at + 4 ≤ length bytes
-    → little_endian (part at 4 bytes) ≡ little_endian (part at 2 bytes) + 65536 * little_endian (part (at + 2) 2 bytes)
-unfolding little_endian
-two_halves at bytes h =
+four_bytes at bytes h =
+    let second : at + 1 ≡ suc at = omega arith in
     let third : at + 2 ≡ suc (suc at) = omega arith in
-    rw (third, drop-cons bytes at 0 (omega arith), drop-cons bytes (suc at) 0 (omega arith), drop-cons bytes (suc (suc at)) 0 (omega arith), drop-cons bytes (suc (suc (suc at))) 0 (omega arith))
-    (omega arith)
+    let fourth : at + 3 ≡ suc (suc (suc at)) = omega arith in
+    let e : part at 4 bytes ≡ get_or bytes at 0 ∷ get_or bytes (suc at) 0 ∷ get_or bytes (suc (suc at)) 0 ∷ get_or bytes (suc (suc (suc at))) 0 ∷ [] =
+    rw (drop-cons bytes at 0 (omega arith), drop-cons bytes (suc at) 0 (omega arith), drop-cons bytes (suc (suc at)) 0 (omega arith), drop-cons bytes (suc (suc (suc at))) 0 (omega arith))
+    in
+    rw (second, third, fourth, e) (omega arith)

@@ -57,13 +57,7 @@ fn is_well_formed(payload: &[u8]) -> bool
     let total_bins = u16::read_from(payload, 2) as usize;
     let bin_offset = u16::read_from(payload, 4) as usize;
     let left = payload.len() - 6;
-    if total_bins == 0 {
-        return false;
-    }
-    if left % 4 != 0 {
-        return false;
-    }
-    bin_offset + left / 4 <= total_bins
+    total_bins != 0 && left % 4 == 0 && bin_offset + left / 4 <= total_bins
 }
 
 // The row that a chunk goes to: the open one, or where the number or the total is another, a zeroed one.
@@ -71,16 +65,10 @@ fn row_for(row: Option<OpenRow>, buf: &mut [f32], row_seq: u16, total_bins: usiz
     requires { total_bins ≤ length buf.old }
     ensures { open_of result buf.new ≡ row_for (chunk_of row_seq total_bins 0 []) (row_of row buf.old) }
 {
-    let Some(current) = row else {
-        return open_row(buf, row_seq, total_bins);
-    };
-    if current.row_seq != row_seq {
-        return open_row(buf, row_seq, total_bins);
+    match row {
+        Some(open) if open.row_seq == row_seq && open.total_bins == total_bins => open,
+        _ => open_row(buf, row_seq, total_bins),
     }
-    if current.total_bins != total_bins {
-        return open_row(buf, row_seq, total_bins);
-    }
-    current
 }
 
 // A zeroed row.
@@ -167,17 +155,6 @@ fn read_f32(bytes: &[u8], at: usize) -> f32
     requires { at + 4 ≤ length bytes.now }
     ensures { result ≡ from_bits (little_endian (part at 4 bytes.now)) }
 {
-    let low = read_u16_le(bytes, at);
-    let high = read_u16_le(bytes, at + 2);
-    floats::from_bits(low + 65536 * high)
-}
-
-// The little-endian number of two bytes.
-fn read_u16_le(bytes: &[u8], at: usize) -> u32
-    requires { at + 2 ≤ length bytes.now }
-    ensures { (result ≡ little_endian (part at 2 bytes.now)) × (result ≤ 65535) }
-{
-    let low = bytes[at] as u32;
-    let high = bytes[at + 1] as u32;
-    low + 256 * high
+    let four = [bytes[at], bytes[at + 1], bytes[at + 2], bytes[at + 3]];
+    floats::from_bits(u32::from_le_bytes(four))
 }

@@ -4,6 +4,7 @@ use mathlib.Core.Bool.{true≢false}
 use mathlib.Core.List.{List}
 use Prim.Native.Nat.{ℕ, ◌-◌, ◌≤◌, ◌<◌}
 use lib.ListN.{length, take, drop}
+use Rattle.std.proofs.Common.{Ok, Err}
 use lib.Ieee.{Float}
 use borrow.Author.Tests.{le-leb, lt-leb}
 use Rattle.model.specs.Receiver as Model
@@ -27,7 +28,7 @@ use Rattle.receiver_state.proofs.SideCalls.{side_called}
 use Rattle.receiver_state.proofs.Lending.{floats_put, words_put, sound_taken}
 
 module _ (r : Receiver) (fs : List Float) (us : List ℕ) (ready : Ready r fs us) (words : WordsFit us) (side : Side) (out : List Float) where
-  pub play_refused : 65535 < length out → PlayedOut side r fs us out (record { receiver = r; answer = Answer.Refused Refusal.Range }) fs us out
+  pub play_refused : 65535 < length out → PlayedOut side r fs us out (record { receiver = r; answer = Err Refusal.Range }) fs us out
   unfolding own_questions first_no
   play_refused many =
       record {
@@ -40,7 +41,7 @@ module _ (r : Receiver) (fs : List Float) (us : List ℕ) (ready : Ready r fs us
       (take (length us - word_start (sizes_of r.sizes) side) (drop (word_start (sizes_of r.sizes) side) us)) out p ys vs out'
       → length out' ≡ length out
       → PlayedOut side r fs us out
-      (record { receiver = counted (channel_set side p.channel r); answer = Answer.Played p.taken p.dropped p.short })
+      (record { receiver = counted (channel_set side p.channel r); answer = Ok (Answer.Played p.taken p.dropped p.short) })
       (floats_put r fs us (sides_ready r fs us ready) side ys vs) (words_put r fs us (sides_ready r fs us ready) side ys vs) out'
   unfolding changes own_questions first_no is_accepted
   play_called p ys vs out' few h as_long =

@@ -1,45 +1,48 @@
 // A play.
 ghost use Rattle.model.specs.Receiver.{play};
-ghost use Rattle.receiver_state.specs.Promises.{Ready};
+ghost use Rattle.receiver_state.specs.Fields.{answered};
 ghost use Rattle.receiver.specs.Promises.{PlayedOut};
 
 use calls::{Refusal, Side};
 use receiver_state::asking::asked;
-use receiver_state::counted::{count_call, refusal};
+use receiver_state::counted::{answered, count_call};
 use receiver_state::sides::{channel_of, starts, with_channel};
 use receiver_state::{Answer, Answered, Receiver};
+use sizes::AllowedSizes;
 
-// A play that questions 1 to 4 let through.
-fn played(r: Receiver, fs: &mut [f32], us: &mut [u32], side: Side, out: &mut [f32]) -> Answered
-    requires { Ready r fs.old us.old }
-    ensures { PlayedOut side r fs.old us.old out.old result fs.new us.new out.new }
+// A play's work.
+fn played(
+    r: Receiver,
+    fs: &mut [f32],
+    us: &mut [u32],
+    side: Side,
+    out: &mut [f32],
+) -> Result<(Receiver, Answer), Refusal>
+    ensures { PlayedOut side r fs.old us.old out.old (answered r result) fs.new us.new out.new }
 {
+    asked(r, fs, us)?;
     if 65535 < out.len() {
-        return refusal(r, Refusal::Range);
+        return Err(Refusal::Range);
     }
-    let z = r.sizes;
-    let begin = starts(z, side);
-    let f = begin.floats;
-    let w = begin.words;
+    let begin = starts(AllowedSizes { sizes: r.sizes }, side);
     let before = channel_of(r, side);
-    let answer = before.play(z, &mut fs[f..], &mut us[w..], out);
-    let channel = answer.channel;
-    Answered {
-        receiver: count_call(with_channel(r, side, channel)),
-        answer: Answer::Played {
-            taken: answer.taken,
-            dropped: answer.dropped,
-            short: answer.short,
-        },
-    }
+    let played = before.play(
+        r.sizes,
+        &mut fs[begin.floats..],
+        &mut us[begin.words..],
+        out,
+    );
+    let answer = Answer::Played {
+        taken: played.taken,
+        dropped: played.dropped,
+        short: played.short,
+    };
+    Ok((count_call(with_channel(r, side, played.channel)), answer))
 }
 
 // A play of as many samples as the output has.
 pub fn play(r: Receiver, fs: &mut [f32], us: &mut [u32], side: Side, out: &mut [f32]) -> Answered
     ensures { PlayedOut side r fs.old us.old out.old result fs.new us.new out.new }
 {
-    match asked(r, fs, us) {
-        Err(why) => refusal(r, why),
-        Ok(()) => played(r, fs, us, side, out),
-    }
+    answered(r, played(r, fs, us, side, out))
 }

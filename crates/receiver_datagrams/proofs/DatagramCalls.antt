@@ -1,5 +1,5 @@
 -- A datagram that questions 1 to 4 let through: its own questions, its header's counts, and its stream's work. Assumes nothing.
-use Rattle.std.proofs.Common.{None, Some}
+use Rattle.std.proofs.Common.{None, Some, Ok, Err}
 use mathlib.Core.Path.{◌≡◌, refl, sym, ◌∙◌, ap}
 use mathlib.Core.Bool.{true}
 use mathlib.Core.Option.{none, some}
@@ -86,19 +86,19 @@ payload_taken from start version bytes from_is start_is =
 
 module _ (r : Receiver) (fs : List Float) (us bytes : List ℕ) (ready : Ready r fs us) (are : all (λ b. ltb b 256) bytes ≡ true) where
   refused_by : (why : Refusal) → first_no (own_questions (sizes_of r.sizes) (datagram bytes)) ≡ some (refusal_number why)
-      → DatagramTaken r fs us bytes (record { receiver = r; answer = Answer.Refused why }) fs us
+      → DatagramTaken r fs us bytes (record { receiver = r; answer = Err why }) fs us
   refused_by why e = record { called = own_refused r fs us ready (datagram bytes) (refusal_number why) are e; row_bins = tt }
 
-  pub too_short_law : length bytes < 16 → DatagramTaken r fs us bytes (record { receiver = r; answer = Answer.Refused Refusal.Length }) fs us
+  pub too_short_law : length bytes < 16 → DatagramTaken r fs us bytes (record { receiver = r; answer = Err Refusal.Length }) fs us
   unfolding own_questions first_no
   too_short_law few = refused_by Refusal.Length (rw (lt-leb 16 (length bytes) few))
 
-  pub too_long_law : 16 ≤ length bytes → 65535 < length bytes → DatagramTaken r fs us bytes (record { receiver = r; answer = Answer.Refused Refusal.Length }) fs us
+  pub too_long_law : 16 ≤ length bytes → 65535 < length bytes → DatagramTaken r fs us bytes (record { receiver = r; answer = Err Refusal.Length }) fs us
   unfolding own_questions first_no
   too_long_law enough many = refused_by Refusal.Length (rw (le-leb 16 (length bytes) enough, lt-leb (length bytes) 65535 many))
 
   pub header_refused : (h : Header) (stream : Framing.Stream) (why : Refusal) → length_allowed bytes ≡ true → h ≡ header_fields bytes → stream_in bytes ≡ stream
-      → some (refusal_number why) ≡ first_no (header_questions (sizes_of r.sizes) h stream bytes) → DatagramTaken r fs us bytes (record { receiver = r; answer = Answer.Refused why }) fs us
+      → some (refusal_number why) ≡ first_no (header_questions (sizes_of r.sizes) h stream bytes) → DatagramTaken r fs us bytes (record { receiver = r; answer = Err why }) fs us
   unfolding own_questions first_no
   header_refused h stream why six fields stream-is refuses = refused_by why (rw six (sym (rw (fields, ← stream-is) at refuses)))
 
@@ -189,7 +189,7 @@ module _ (r : Receiver) (fs : List Float) (us bytes : List ℕ) (h : MediaHeader
   pub heard_called : (side : Side) → stream_in bytes ≡ Framing.audio (model_side side) → (k : StreamCounts) → counts_of k ≡ counted_on side h.sequence (counts_of r.audio)
       → (payload : List ℕ) → payload ≡ audio_payload h.version bytes → (v : Receiver) (fs' : List Float) (us' : List ℕ)
       → SideTaken side (audio_into (sizes_of r.sizes) h.sequence payload) (header_set k r.waterfall r) fs us (row none) v fs' us'
-      → DatagramTaken r fs us bytes (record { receiver = counted v; answer = Answer.NoRow }) fs' us'
+      → DatagramTaken r fs us bytes (record { receiver = counted v; answer = Ok Answer.NoRow }) fs' us'
   unfolding dispatch is_accepted
   heard_called side stream k k-is payload is v fs' us' taken =
       record {
@@ -201,7 +201,7 @@ module _ (r : Receiver) (fs : List Float) (us bytes : List ℕ) (h : MediaHeader
 
   -- ---- a stream that no channel takes
 
-  passed_counted : stream_in bytes ≡ Framing.other_stream → DatagramTaken r fs us bytes (record { receiver = counted (header_set r.audio r.waterfall r); answer = Answer.NoRow }) fs us
+  passed_counted : stream_in bytes ≡ Framing.other_stream → DatagramTaken r fs us bytes (record { receiver = counted (header_set r.audio r.waterfall r); answer = Ok Answer.NoRow }) fs us
   unfolding dispatch counts_after is_accepted
   passed_counted stream =
       record {
@@ -210,7 +210,7 @@ module _ (r : Receiver) (fs : List Float) (us bytes : List ℕ) (h : MediaHeader
       }
 
   pub passed_called : (begun r' : Receiver) → stream_in bytes ≡ Framing.other_stream → begun ≡ header_set r.audio r.waterfall r → r' ≡ counted begun
-      → DatagramTaken r fs us bytes (record { receiver = r'; answer = Answer.NoRow }) fs us
+      → DatagramTaken r fs us bytes (record { receiver = r'; answer = Ok Answer.NoRow }) fs us
   passed_called begun r' stream header call = rw (call, header) (passed_counted stream)
 
   -- ---- rows
@@ -240,11 +240,11 @@ module _ (r : Receiver) (fs : List Float) (us bytes : List ℕ) (h : MediaHeader
         datagram_called (Framing.waterfall (model_side side)) stream r.audio k (rows_counted side k k-is) a accepts v.receiver fs' us'
         (taken.shown.taken ∙ rw is) taken.shown.areas
 
-    pub none_completed : v.completed ≡ None → DatagramTaken r fs us bytes (record { receiver = counted v.receiver; answer = Answer.NoRow }) fs' us'
+    pub none_completed : v.completed ≡ None → DatagramTaken r fs us bytes (record { receiver = counted v.receiver; answer = Ok Answer.NoRow }) fs' us'
     unfolding is_accepted
     none_completed is = record { called = seen_called (row none) refl (rw is); row_bins = tt }
 
-    pub one_completed : (n : ℕ) → v.completed ≡ Some n → DatagramTaken r fs us bytes (record { receiver = counted v.receiver; answer = Answer.Row n }) fs' us'
+    pub one_completed : (n : ℕ) → v.completed ≡ Some n → DatagramTaken r fs us bytes (record { receiver = counted v.receiver; answer = Ok (Answer.Row n) }) fs' us'
     unfolding is_accepted
     one_completed n is =
         record {

@@ -1,11 +1,12 @@
 -- What a datagram promises. Assumes nothing.
-use Rattle.std.specs.Prelude.{ℕ, ◌≤◌, ◌≡◌, true, List, [], ◌∷◌, drop, Float}
+use Rattle.std.specs.Prelude.{ℕ, ◌≤◌, ◌≡◌, true, List, [], ◌∷◌, drop, Float, Result, Ok, Err}
 use Rattle.model.specs.Sizes as Sizing
 use Rattle.model.specs.Framing as Framing
 use Rattle.model.specs.Counts as Counts
 use Rattle.model.specs.Framing.{header_fields, valid_header, stream_in}
 use Rattle.model.specs.Receiver as Model
 use Rattle.model.specs.Questions.{length_allowed, Question, ask, stream_allowed}
+use Rattle.calls.specs.declared.Refusal.{Refusal}
 use Rattle.calls.specs.declared.Side.{Side}
 use Rattle.calls.specs.declared.Side.TheVariants.{A, B}
 use Rattle.calls.specs.Views.{model_side, sizes_of}
@@ -13,7 +14,7 @@ use Rattle.udp_framing.specs.declared.MediaHeader.{MediaHeader}
 use Rattle.udp_framing.specs.Views.{header_of}
 use Rattle.receiver_state.specs.declared.Receiver.{Receiver}
 use Rattle.receiver_state.specs.declared.Answer.{Answer}
-use Rattle.receiver_state.specs.declared.Answer.TheVariants.{Refused, Accepted, Played, NoRow, Row}
+use Rattle.receiver_state.specs.declared.Answer.TheVariants.{Accepted, Played, NoRow, Row}
 use Rattle.receiver_state.specs.declared.Answered.{Answered}
 use Rattle.receiver_datagrams.specs.declared.Stream.{Stream}
 use Rattle.receiver_datagrams.specs.declared.Stream.TheVariants as Streams
@@ -32,12 +33,12 @@ counted_on A sequence c = Counts.counted sequence c
 counted_on B sequence c = c
 
 -- a completed row has 1 to bins values
-abbrev pub RowBins : Answer → ℕ → Type 0
-RowBins (Refused why) bins = Unit {0}
-RowBins Accepted bins = Unit {0}
-RowBins (Played taken dropped short) bins = Unit {0}
-RowBins NoRow bins = Unit {0}
-RowBins (Row n) bins = (1 ≤ n) × (n ≤ bins)
+abbrev pub RowBins : Result Answer Refusal → ℕ → Type 0
+RowBins (Err why) bins = Unit {0}
+RowBins (Ok Accepted) bins = Unit {0}
+RowBins (Ok (Played taken dropped short)) bins = Unit {0}
+RowBins (Ok NoRow) bins = Unit {0}
+RowBins (Ok (Row n)) bins = (1 ≤ n) × (n ≤ bins)
 
 -- questions 7 and 8, in their order
 abbrev pub header_questions : Sizing.Sizes → Framing.Header → Framing.Stream → List ℕ → List Question

@@ -2,19 +2,20 @@
 // It asks nothing of its caller: any bytes, areas and state are answered, and a refusal changes nothing.
 #![tactic(auto)]
 
-ghost use Rattle.std.specs.Prelude.{◌≡◌, length, ◌≤◌};
-ghost use Rattle.model.specs.Framing.{stream_of, stream_in, audio, waterfall, other_stream};
+ghost use Rattle.std.specs.Prelude.{◌≡◌, length, ◌≤◌, Ok};
+ghost use Rattle.model.specs.Framing.{stream_of, stream_in};
 ghost use Rattle.model.specs.Questions.{first_no, stream_allowed};
 ghost use Rattle.calls.specs.Views.{model_side, sizes_of};
 ghost use Rattle.udp.specs.Requires.{CountsFit};
 ghost use Rattle.udp.specs.Views.{counts_of};
 ghost use Rattle.udp_framing.specs.Views.{header_of};
-ghost use Rattle.receiver_state.specs.Promises.{verdict_of, Ready};
+ghost use Rattle.receiver_state.specs.Promises.{verdict_of};
+ghost use Rattle.receiver_state.specs.Fields.{answered};
 ghost use Rattle.receiver_datagrams.specs.Promises.{model_stream, counted_on, header_questions, HeaderReady, DatagramTaken};
 
 use calls::{Refusal, Side, Sizes};
 use receiver_state::asking::asked;
-use receiver_state::counted::{count_call, count_header, refusal};
+use receiver_state::counted::{answered, count_call, count_header};
 use receiver_state::sides::{audio_on, waterfall_on};
 use receiver_state::{Answer, Answered, Receiver};
 use udp::StreamCounts;
@@ -51,79 +52,7 @@ fn counted_on(counts: StreamCounts, side: Side, sequence: u32) -> StreamCounts
     }
 }
 
-// A datagram of a channel's sound.
-fn heard(
-    r: Receiver,
-    fs: &mut [f32],
-    us: &mut [u32],
-    bytes: &[u8],
-    header: MediaHeader,
-    side: Side,
-) -> Answered
-    requires { HeaderReady r fs.old us.old bytes.now header × (stream_in bytes.now ≡ audio (model_side side)) }
-    ensures { DatagramTaken r fs.old us.old bytes.now result fs.new us.new }
-{
-    let sequence = header.sequence;
-    let former = r.audio;
-    let rows = r.waterfall;
-    let counts = counted_on(former, side, sequence);
-    let begun = count_header(r, counts, rows);
-    let start = udp_framing::audio_samples_offset(header.version);
-    // A payload begins at the datagram's end at most.
-    let from = start.min(bytes.len());
-    let taken = audio_on(begun, fs, us, side, sequence, &bytes[from..]);
-    Answered {
-        receiver: count_call(taken),
-        answer: Answer::NoRow,
-    }
-}
-
-// A datagram of a channel's rows.
-fn seen(
-    r: Receiver,
-    fs: &mut [f32],
-    us: &mut [u32],
-    bytes: &[u8],
-    header: MediaHeader,
-    side: Side,
-) -> Answered
-    requires { HeaderReady r fs.old us.old bytes.now header × (stream_in bytes.now ≡ waterfall (model_side side)) }
-    ensures { DatagramTaken r fs.old us.old bytes.now result fs.new us.new }
-{
-    let sequence = header.sequence;
-    let sound = r.audio;
-    let former = r.waterfall;
-    let counts = counted_on(former, side, sequence);
-    let begun = count_header(r, sound, counts);
-    let shown = waterfall_on(begun, fs, us, side, &bytes[16..]);
-    let after = shown.receiver;
-    match shown.completed {
-        None => Answered {
-            receiver: count_call(after),
-            answer: Answer::NoRow,
-        },
-        Some(n) => Answered {
-            receiver: count_call(after),
-            answer: Answer::Row(n),
-        },
-    }
-}
-
-// A datagram of a stream that no channel takes: its header is counted.
-fn passed_over(r: Receiver, fs: &[f32], us: &[u32], bytes: &[u8], header: MediaHeader) -> Answered
-    requires { HeaderReady r fs.now us.now bytes.now header × (stream_in bytes.now ≡ other_stream) }
-    ensures { DatagramTaken r fs.now us.now bytes.now result fs.now us.now }
-{
-    let sound = r.audio;
-    let rows = r.waterfall;
-    let begun = count_header(r, sound, rows);
-    Answered {
-        receiver: count_call(begun),
-        answer: Answer::NoRow,
-    }
-}
-
-// A datagram that its own questions let through, too: the work of its stream.
+// A datagram that all questions let through: its header is counted, and the work of its stream is done.
 fn dispatched(
     r: Receiver,
     fs: &mut [f32],
@@ -131,14 +60,35 @@ fn dispatched(
     bytes: &[u8],
     header: MediaHeader,
     stream: Stream,
-) -> Answered
+) -> (Receiver, Answer)
     requires { HeaderReady r fs.old us.old bytes.now header × (stream_in bytes.now ≡ model_stream stream) }
-    ensures { DatagramTaken r fs.old us.old bytes.now result fs.new us.new }
+    ensures { DatagramTaken r fs.old us.old bytes.now (answered r (Ok result)) fs.new us.new }
 {
     match stream {
-        Stream::Audio(side) => heard(r, fs, us, bytes, header, side),
-        Stream::Waterfall(side) => seen(r, fs, us, bytes, header, side),
-        Stream::Other => passed_over(r, fs, us, bytes, header),
+        Stream::Audio(side) => {
+            let counts = counted_on(r.audio, side, header.sequence);
+            let begun = count_header(r, counts, r.waterfall);
+            let start = udp_framing::audio_samples_offset(header.version);
+            // A payload begins at the datagram's end at most.
+            let from = start.min(bytes.len());
+            let taken = audio_on(begun, fs, us, side, header.sequence, &bytes[from..]);
+            (count_call(taken), Answer::NoRow)
+        }
+        Stream::Waterfall(side) => {
+            let counts = counted_on(r.waterfall, side, header.sequence);
+            let begun = count_header(r, r.audio, counts);
+            let shown = waterfall_on(begun, fs, us, side, &bytes[16..]);
+            let after = count_call(shown.receiver);
+            match shown.completed {
+                None => (after, Answer::NoRow),
+                Some(n) => (after, Answer::Row(n)),
+            }
+        }
+        // No channel takes it.
+        Stream::Other => {
+            let begun = count_header(r, r.audio, r.waterfall);
+            (count_call(begun), Answer::NoRow)
+        }
     }
 }
 
@@ -170,31 +120,30 @@ fn header_asked(z: Sizes, header: MediaHeader, stream: Stream, bytes: &[u8]) -> 
     Ok(())
 }
 
-// A datagram that questions 1 to 4 let through.
-fn received(r: Receiver, fs: &mut [f32], us: &mut [u32], bytes: &[u8]) -> Answered
-    requires { Ready r fs.old us.old }
-    ensures { DatagramTaken r fs.old us.old bytes.now result fs.new us.new }
+// A datagram's work, behind its questions.
+fn received(
+    r: Receiver,
+    fs: &mut [f32],
+    us: &mut [u32],
+    bytes: &[u8],
+) -> Result<(Receiver, Answer), Refusal>
+    ensures { DatagramTaken r fs.old us.old bytes.now (answered r result) fs.new us.new }
 {
+    asked(r, fs, us)?;
     let Some(header) = udp_framing::parse_media_header(bytes) else {
-        return refusal(r, Refusal::Length);
+        return Err(Refusal::Length);
     };
     if 65535 < bytes.len() {
-        return refusal(r, Refusal::Length);
+        return Err(Refusal::Length);
     }
-    let z = r.sizes;
     let stream = stream_of(header.stream_type);
-    match header_asked(z, header, stream, bytes) {
-        Err(why) => refusal(r, why),
-        Ok(()) => dispatched(r, fs, us, bytes, header, stream),
-    }
+    header_asked(r.sizes, header, stream, bytes)?;
+    Ok(dispatched(r, fs, us, bytes, header, stream))
 }
 
 // A datagram, as it came.
 pub fn handle_media_packet(r: Receiver, fs: &mut [f32], us: &mut [u32], bytes: &[u8]) -> Answered
     ensures { DatagramTaken r fs.old us.old bytes.now result fs.new us.new }
 {
-    match asked(r, fs, us) {
-        Err(why) => refusal(r, why),
-        Ok(()) => received(r, fs, us, bytes),
-    }
+    answered(r, received(r, fs, us, bytes))
 }

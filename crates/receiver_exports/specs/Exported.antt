@@ -1,9 +1,8 @@
 -- What the exports promise: the receiver's own promise of the call, at the receiver that the words are, and the words of what it leaves. Assumes nothing.
-use Rattle.std.specs.Prelude.{ℕ, ◌≡◌, Bool, true, false, ◌&&◌, cond, List, [], length, leb, eqb, Result, Float}
+use Rattle.std.specs.Prelude.{ℕ, ◌≡◌, Bool, true, false, ◌&&◌, List, [], length, leb, Result, Float}
 use Rattle.std.proofs.lemmas.List.Edits.{sets}
 use Rattle.model.specs.Receiver.{Call}
 use Rattle.calls.specs.declared.Side.{Side}
-use Rattle.calls.specs.declared.Side.TheVariants.{A, B}
 use Rattle.calls.specs.declared.Sizes.{Sizes}
 use Rattle.calls.specs.declared.Estimates.{Estimates}
 use Rattle.calls.specs.declared.Refusal.{Refusal}
@@ -15,10 +14,6 @@ use Rattle.receiver.specs.Promises.{PlayedOut}
 use Rattle.receiver_datagrams.specs.Promises.{DatagramTaken}
 use Rattle.receiver_setup.specs.Promises.{SetupDone}
 use Rattle.receiver_words.specs.State.{receiver_at, answer_words, state_left, setup_words, setup_left}
-
--- 0 is channel A, and any other number B
-abbrev pub side_named : ℕ → Side
-side_named n = cond (eqb n 0) A B
 
 -- a state has 90 words, and an answer four
 unfoldable pub words_there : List ℕ → List ℕ → Bool

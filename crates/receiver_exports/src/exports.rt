@@ -1,31 +1,25 @@
 // The calls. Each takes the state's 90 words and four words for the answer: 0 and a refusal's number; 1, accepted;
 // 2, taken, dropped and short; 3, no row; 4 and the bins of a completed row. false: one of them is too short, and nothing
-// was changed. A side of 0 is channel A, any other B. Settings and estimates are bit patterns.
+// was changed. A side of 0 is channel A, any other B. Settings and estimates are bit patterns. C lends state, areas and answer
+// with each call, and hands over plain numbers: that is the interface, so no struct has them together.
 ghost use Rattle.std.specs.Prelude.{◌≡◌};
 ghost use Rattle.model.specs.Receiver.{reset, set, probe, one_way, depth, transmit_depth};
 ghost use Rattle.calls.specs.Views.{model_side};
-ghost use Rattle.receiver_exports.specs.Exported.{side_named, words_there, Calls, Plays, Takes, NoneWritten, Exported, SetupExported};
+ghost use Rattle.calls.specs.Sides.{side_named};
+ghost use Rattle.receiver_exports.specs.Exported.{words_there, Calls, Plays, Takes, NoneWritten, Exported, SetupExported};
 
-use calls::{DepthCounts, Estimates, Settings, Side, Sizes};
+use calls::{DepthCounts, Estimates, ProbeTimes, Settings, Side, Sizes};
 use receiver_setup::setup;
 use receiver_words::state::{leave, leave_setup, receiver_at};
 
+#[tactic(auto, unfolding(crate::specs::Exported::words_there))]
 fn words_there(state: &[u64], answer: &[u64]) -> bool
     ensures { result ≡ words_there state.now answer.now }
 {
-    if state.len() < 90 {
-        return false;
-    }
-    4 <= answer.len()
+    90 <= state.len() && 4 <= answer.len()
 }
 
-fn side_named(n: u64) -> Side
-    ensures { result ≡ side_named n }
-{
-    if n == 0 { Side::A } else { Side::B }
-}
-
-// A receiver of these sizes and estimates, over areas that may hold anything.
+// A receiver of these sizes and estimates, over areas that may hold anything. The C interface passes plain numbers, one by one.
 #[unsafe(no_mangle)]
 pub extern "C" fn receiver_setup(
     state: &mut [u64],
@@ -113,7 +107,7 @@ pub extern "C" fn receiver_play(
     leave(
         state,
         answer,
-        receiver::sound::play(r, fs, us, side_named(side), out),
+        receiver::sound::play(r, fs, us, Side::from_number(side), out),
     );
     true
 }
@@ -135,7 +129,7 @@ pub extern "C" fn receiver_reset(
     leave(
         state,
         answer,
-        receiver::settings::reset(r, fs, us, side_named(side)),
+        receiver::settings::reset(r, fs, us, Side::from_number(side)),
     );
     true
 }
@@ -169,7 +163,7 @@ pub extern "C" fn receiver_set(
     leave(
         state,
         answer,
-        receiver::settings::set(r, fs, us, side_named(side), settings),
+        receiver::settings::set(r, fs, us, Side::from_number(side), settings),
     );
     true
 }
@@ -194,7 +188,7 @@ pub extern "C" fn receiver_probe(
     leave(
         state,
         answer,
-        receiver::clock::probe(r, fs, us, t1, t2, t3, t4),
+        receiver::clock::probe(r, fs, us, ProbeTimes { t1, t2, t3, t4 }),
     );
     true
 }

@@ -10,16 +10,18 @@ use calls::{Estimates, Refusal, Sizes};
 use channel::Channel;
 use receiver_state::Receiver;
 use receiver_state::asking::{areas_long, both_finite};
+use sizes::AllowedSizes;
 use udp::StreamCounts;
 
-// Questions 1, 2 and 5, in their order: the first that is answered with no, if one is.
+// Questions 1, 2 and 5, in their order: the first that is answered with no, if one is. The sizes and both estimates stay three
+// parameters here and below: callers in other languages give them one by one, and each question takes a part of them.
 fn setup_asked(z: Sizes, a: Estimates, b: Estimates, fs: &[f32], us: &[u32]) -> Result<(), Refusal>
     ensures { SetupAsked z a b fs.now us.now result }
 {
-    if !sizes::allowed(z) {
+    let Some(sizes) = AllowedSizes::of(z) else {
         return Err(Refusal::Sizes);
-    }
-    let long = areas_long(z, fs, us);
+    };
+    let long = areas_long(sizes, fs, us);
     let finite = both_finite(a, b);
     if !long {
         return Err(Refusal::NoRoom);
@@ -35,8 +37,9 @@ fn zero_pictures(z: Sizes, us: &mut [u32])
     requires { SetupReady z us.old }
     ensures { us.new ≡ pictures_zeroed z us.old }
 {
-    let start = sizes::word_section(z);
-    let at = sizes::most_waiting(z);
+    let sizes = AllowedSizes { sizes: z };
+    let start = sizes.word_section();
+    let at = sizes.most_waiting();
     let n = z.width * z.height;
     areas::fill(us, at, n, 0);
     areas::fill(us, start + at, n, 0);

@@ -10,6 +10,8 @@ use lib.Dec.{ltb}
 use lib.Seq.{get_or-drop}
 use lib.Ieee.{Float}
 use borrow.Author.Tests.{le-leb, lt-ltb}
+use Rattle.std.specs.Prelude.{Result, Err, IsErrAnd}
+use Rattle.std.proofs.lemmas.Result.{err_from_is_err_and}
 use Rattle.model.specs.Sizes as Sizing
 use Rattle.model.specs.Sizes.{sizes_allowed, most_waiting}
 use Rattle.model.specs.Receiver as Model
@@ -20,6 +22,7 @@ use Rattle.model.specs.WholeList.{CallBytes}
 use Rattle.model.proofs.BoolLaws.{by_test, clash, first_of_both, second_of_both}
 use Rattle.model.proofs.HeldKept.{ChannelShaped, StateShaped, channel_held_more, accept_stays_held}
 use Rattle.model.proofs.Reachable.{accept_one_more}
+use Rattle.calls.specs.declared.Refusal.{Refusal}
 use Rattle.calls.specs.declared.Side.{Side}
 use Rattle.calls.specs.declared.Side.TheVariants.{A, B}
 use Rattle.calls.specs.Views.{sizes_of}
@@ -29,8 +32,10 @@ use Rattle.channel.specs.View.{row_at, channel_in}
 use Rattle.channel.proofs.Sections.{float_section_is, word_section_is}
 use Rattle.channel.proofs.Sound.{row_shaped}
 use Rattle.receiver_state.specs.declared.Receiver.{Receiver}
-use Rattle.receiver_state.specs.View.{float_start, word_start, channel_at, state_of, lent_of}
-use Rattle.receiver_state.specs.Promises.{AreasKept, Called, early_questions, Ready, SidesReady}
+use Rattle.receiver_state.specs.declared.Answer.{Answer}
+use Rattle.receiver_state.specs.View.{float_start, word_start, channel_at, state_of, lent_of, answer_of}
+use Rattle.receiver_state.specs.Fields.{answered}
+use Rattle.receiver_state.specs.Promises.{AreasKept, Called, early_questions, Ready, EarlyAsked, SidesReady}
 use Rattle.receiver_state.proofs.StateQuestions.{float_area_is, word_area_is, float_start_few, word_start_few}
 
 -- ---- the order of the questions
@@ -72,6 +77,13 @@ module _ (r : Receiver) (fs : List Float) (us : List ℕ) where
   -- by one of questions 1 to 4
   pub early_refused : (c : Call) (n : ℕ) → CallBytes c → some n ≡ first_no (early_questions (lent_of fs us) (state_of r fs us)) → Called c r fs us (Model.refused n) r fs us
   early_refused c n bytes e = refusal_called c n bytes (early_refusal (lent_of fs us) (state_of r fs us) c n e)
+
+  -- where the work ends by the `?` of the early questions
+  pub asked_refused : (c : Call) → CallBytes c → (values : List Float) (work : Result (Receiver × Answer) Refusal) {why : Refusal} → IsErrAnd work (λ y. y ≡ why)
+      → EarlyAsked r fs us (Err why) → Called c r fs us (answer_of (answered r work).answer values) (answered r work).receiver fs us
+  asked_refused c bytes values work ends early =
+      let is = err_from_is_err_and work ends in
+      rw (is.1, is.2) (early_refused c _ bytes early.asked)
 
   module _ (ready : Ready r fs us) where
     early_passed : (c : Call) → first_no (questions (lent_of fs us) (state_of r fs us) c) ≡ first_no (own_questions (sizes_of r.sizes) c)

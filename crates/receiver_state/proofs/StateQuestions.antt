@@ -1,6 +1,6 @@
 -- Questions 1 to 4, asked of the fields and the areas, are the model's of the state that they hold. Assumes nothing.
 use mathlib.Core.Path.{◌≡◌, refl, sym}
-use mathlib.Core.Bool.{Bool, true, false, false≢true}
+use mathlib.Core.Bool.{Bool, true, false, false≢true, and-eq-true_iff}
 use mathlib.Core.Option.{some}
 use mathlib.Core.List.{List}
 use Rattle.std.specs.Prelude.{Ok, Err}
@@ -10,11 +10,11 @@ use lib.ListN.{length, take, drop, length-drop}
 use lib.Seq.{take_all}
 use lib.Dec.{leb}
 use lib.Ieee.{Float}
-use borrow.Author.Tests.{le-leb, lt-leb, lt-ltb, le-ltb}
+use borrow.Author.Tests.{leb-true, lt-ltb, le-ltb}
 use Rattle.model.specs.Sizes as Sizing
 use Rattle.model.specs.Sizes.{sizes_allowed, float_section, word_section, float_area, word_area}
-use Rattle.model.specs.Questions.{most_calls, most_added, first_no, areas_long, channel_held, clock_held, stream_held, held}
-use Rattle.model.proofs.BoolLaws.{clash}
+use Rattle.model.specs.Questions.{most_calls, most_added, first_no, areas_long, channel_held, held}
+use Rattle.model.proofs.BoolLaws.{clash, first_of_both, second_of_both}
 use Rattle.model.proofs.HeldKept.{NextFits}
 use Rattle.calls.specs.declared.Side.{Side}
 use Rattle.calls.specs.declared.Side.TheVariants.{A, B}
@@ -22,13 +22,11 @@ use Rattle.calls.specs.declared.Refusal.{Refusal}
 use Rattle.calls.specs.Views.{sizes_of}
 use Rattle.calls.specs.Refusals.{refusal_number}
 use Rattle.jitter_buffer.specs.View.{next_of}
-use Rattle.audio_metrics.specs.Views.{clock_of}
-use Rattle.udp.specs.Views.{counts_of}
 use Rattle.channel.specs.View.{channel_in, Inside}
 use Rattle.channel.specs.Promises.{Asked, ChannelAsked}
 use Rattle.receiver_state.specs.declared.Receiver.{Receiver}
 use Rattle.receiver_state.specs.View.{float_start, word_start, channel_at, state_of, lent_of}
-use Rattle.receiver_state.specs.Promises.{early_questions, StateAsked, EarlyAsked}
+use Rattle.receiver_state.specs.Promises.{early_questions, counts_held, StateAsked, EarlyAsked}
 
 pub float_area_is : (z : Sizing.Sizes) → float_area z ≡ 2 * float_section z + z.bins
 unfolding float_area
@@ -85,38 +83,22 @@ module _ (r : Receiver) (us : List ℕ) (allowed : sizes_allowed (sizes_of r.siz
     unfolding held
     b_refused b = refusing (λ fs long. rw (← a_is true a fs long, ← b_is false b fs long))
 
-    module _ (b : ChannelAsked r.sizes r.b second r.calls true) where
-      pub clock_refused : clock_held (clock_of r.clock) ≡ false → StateAsked r us false
-      unfolding held
-      clock_refused k = refusing (λ fs long. rw (← a_is true a fs long, ← b_is true b fs long, k))
+    pub counts_left : ChannelAsked r.sizes r.b second r.calls true → (v : Bool) → v ≡ counts_held r → StateAsked r us v
+    unfolding held
+    counts_left b v is =
+        record {
+          asked = λ fs long. rw (← a_is true a fs long, ← b_is true b fs long) is;
+          inside = λ yes. both_inside;
+          next = λ yes. both_next;
+        }
+      where
+        both_inside : (side : Side) → Inside r.sizes (channel_at side r)
+        both_inside A = a.inside refl
+        both_inside B = b.inside refl
 
-      module _ (k : clock_held (clock_of r.clock) ≡ true) where
-        pub incoming_refused : leb r.incoming (r.calls * most_added) ≡ false → StateAsked r us false
-        unfolding held
-        incoming_refused i = refusing (λ fs long. rw (← a_is true a fs long, ← b_is true b fs long, k, i))
-
-        module _ (i : leb r.incoming (r.calls * most_added) ≡ true) where
-          pub audio_refused : stream_held (r.calls * most_added) (counts_of r.audio) ≡ false → StateAsked r us false
-          unfolding held
-          audio_refused s = refusing (λ fs long. rw (← a_is true a fs long, ← b_is true b fs long, k, i, s))
-
-          pub waterfall_left : stream_held (r.calls * most_added) (counts_of r.audio) ≡ true → (v : Bool) → v ≡ stream_held (r.calls * most_added) (counts_of r.waterfall)
-              → StateAsked r us v
-          unfolding held
-          waterfall_left s v is =
-              record {
-                asked = λ fs long. rw (← a_is true a fs long, ← b_is true b fs long, k, i, s) is;
-                inside = λ yes. both_inside;
-                next = λ yes. both_next;
-              }
-            where
-              both_inside : (side : Side) → Inside r.sizes (channel_at side r)
-              both_inside A = a.inside refl
-              both_inside B = b.inside refl
-
-              both_next : (side : Side) → NextFits (next_of (channel_at side r).jitter.next_sequence)
-              both_next A = a.next refl
-              both_next B = b.next refl
+        both_next : (side : Side) → NextFits (next_of (channel_at side r).jitter.next_sequence)
+        both_next A = a.next refl
+        both_next B = b.next refl
 
 -- ---- questions 1 to 4
 
@@ -124,43 +106,46 @@ module _ (r : Receiver) (fs : List Float) (us : List ℕ) where
   no_verdict : (why : Refusal) → some (refusal_number why) ≡ first_no (early_questions (lent_of fs us) (state_of r fs us)) → EarlyAsked r fs us (Err why)
   no_verdict why is = record { asked = is; ready = λ yes. clash (cc) }
 
-  pub sizes_refused : sizes_allowed (sizes_of r.sizes) ≡ false → EarlyAsked r fs us (Err Refusal.Sizes)
+  pub sizes_refused : false ≡ sizes_allowed (sizes_of r.sizes) → EarlyAsked r fs us (Err Refusal.Sizes)
   unfolding first_no
-  sizes_refused one = no_verdict Refusal.Sizes (rw one)
+  sizes_refused one = no_verdict Refusal.Sizes (rw (← one))
 
-  module _ (one : sizes_allowed (sizes_of r.sizes) ≡ true) where
-    pub floats_refused : length fs < float_area (sizes_of r.sizes) → EarlyAsked r fs us (Err Refusal.NoRoom)
-    unfolding first_no areas_long
-    floats_refused few = no_verdict Refusal.NoRoom (rw (one, lt-leb _ _ few))
+  module _ (one : true ≡ sizes_allowed (sizes_of r.sizes)) where
+    pub areas_refused : false ≡ areas_long (lent_of fs us) (sizes_of r.sizes) → EarlyAsked r fs us (Err Refusal.NoRoom)
+    unfolding first_no
+    areas_refused two = no_verdict Refusal.NoRoom (rw (← one, ← two))
 
-    module _ (floats : float_area (sizes_of r.sizes) ≤ length fs) where
-      pub words_refused : length us < word_area (sizes_of r.sizes) → EarlyAsked r fs us (Err Refusal.NoRoom)
-      unfolding first_no areas_long
-      words_refused few = no_verdict Refusal.NoRoom (rw (one, le-leb _ _ floats, lt-leb _ _ few))
+    module _ (two : true ≡ areas_long (lent_of fs us) (sizes_of r.sizes)) where
+      floats_long : float_area (sizes_of r.sizes) ≤ length fs
+      unfolding areas_long
+      floats_long = leb-true _ _ (first_of_both (leb (float_area (sizes_of r.sizes)) (length fs)) _ (sym two))
 
-      module _ (words : word_area (sizes_of r.sizes) ≤ length us) where
-        pub state_refused : StateAsked r us false → EarlyAsked r fs us (Err Refusal.NotHeld)
-        unfolding first_no areas_long
-        state_refused told = no_verdict Refusal.NotHeld (rw (one, le-leb _ _ floats, le-leb _ _ words, ← told.asked fs floats))
+      pub words_long : word_area (sizes_of r.sizes) ≤ length us
+      unfolding areas_long
+      words_long = leb-true _ _ (second_of_both (leb (float_area (sizes_of r.sizes)) (length fs)) _ (sym two))
 
-        module _ (told : StateAsked r us true) where
-          pub calls_refused : most_calls ≤ r.calls → EarlyAsked r fs us (Err Refusal.TooManyCalls)
-          unfolding first_no areas_long
-          calls_refused full = no_verdict Refusal.TooManyCalls (rw (one, le-leb _ _ floats, le-leb _ _ words, ← told.asked fs floats, le-ltb r.calls most_calls full))
+      pub state_refused : StateAsked r us false → EarlyAsked r fs us (Err Refusal.NotHeld)
+      unfolding first_no
+      state_refused told = no_verdict Refusal.NotHeld (rw (← one, ← two, ← told.asked fs floats_long))
 
-          pub all_yes : r.calls < most_calls → EarlyAsked r fs us (Ok tt)
-          unfolding first_no areas_long
-          all_yes few =
-              record {
-                asked = rw (one, le-leb _ _ floats, le-leb _ _ words, ← told.asked fs floats, lt-ltb r.calls most_calls few);
-                ready = λ yes.
-                    record {
-                      allowed = one;
-                      floats = floats;
-                      words = words;
-                      holds = sym (told.asked fs floats);
-                      calls = few;
-                      inside = told.inside refl;
-                      next = told.next refl;
-                    };
-              }
+      module _ (told : StateAsked r us true) where
+        pub calls_refused : most_calls ≤ r.calls → EarlyAsked r fs us (Err Refusal.TooManyCalls)
+        unfolding first_no
+        calls_refused full = no_verdict Refusal.TooManyCalls (rw (← one, ← two, ← told.asked fs floats_long, le-ltb r.calls most_calls full))
+
+        pub all_yes : r.calls < most_calls → EarlyAsked r fs us (Ok tt)
+        unfolding first_no
+        all_yes few =
+            record {
+              asked = rw (← one, ← two, ← told.asked fs floats_long, lt-ltb r.calls most_calls few);
+              ready = λ yes.
+                  record {
+                    allowed = sym one;
+                    floats = floats_long;
+                    words = words_long;
+                    holds = sym (told.asked fs floats_long);
+                    calls = few;
+                    inside = told.inside refl;
+                    next = told.next refl;
+                  };
+            }

@@ -1,11 +1,14 @@
--- A receiver with one field changed. Assumes nothing.
-use Rattle.std.specs.Prelude.{◌+◌}
+-- A receiver with one field changed, and what a call leaves of it. Assumes nothing.
+use Rattle.std.specs.Prelude.{◌+◌, Result, Ok, Err}
 use Rattle.audio_metrics.specs.declared.AudioMetrics.{AudioMetrics}
+use Rattle.calls.specs.declared.Refusal.{Refusal}
 use Rattle.calls.specs.declared.Side.{Side}
 use Rattle.calls.specs.declared.Side.TheVariants.{A, B}
 use Rattle.udp.specs.declared.StreamCounts.{StreamCounts}
 use Rattle.channel.specs.declared.Channel.{Channel}
 use Rattle.receiver_state.specs.declared.Receiver.{Receiver}
+use Rattle.receiver_state.specs.declared.Answer.{Answer}
+use Rattle.receiver_state.specs.declared.Answered.{Answered}
 
 -- one accepted call more
 abbrev pub counted : Receiver → Receiver
@@ -71,3 +74,8 @@ header_set audio waterfall r =
       b = r.b;
       clock = r.clock;
     }
+
+-- a call's work, or the receiver as it came with the question that refuses the call
+abbrev pub answered : Receiver → Result (Receiver × Answer) Refusal → Answered
+answered r (Ok work) = record { receiver = work.0; answer = Ok work.1 }
+answered r (Err why) = record { receiver = r; answer = Err why }

@@ -1,12 +1,12 @@
 -- What a call promises, one record for the eight of them, over the model's call and answer; and what questions 1 to 4 and the work on one channel
 -- ask and promise. Assumes nothing.
-use Rattle.std.specs.Prelude.{ℕ, ◌+◌, ◌*◌, ◌≤◌, ◌<◌, ◌≡◌, Bool, true, false, Result, Ok, Err, List, [], ◌∷◌, length, drop, ltb, Float}
+use Rattle.std.specs.Prelude.{ℕ, ◌+◌, ◌*◌, ◌≤◌, ◌<◌, ◌≡◌, Bool, true, false, ◌&&◌, Result, Ok, Err, List, [], ◌∷◌, length, drop, leb, ltb, Float}
 use Rattle.std.proofs.Math.Option.{Option, none, some}
 use Rattle.model.specs.Sizes as Sizing
 use Rattle.model.specs.Sizes.{sizes_allowed, float_area, word_area}
 use Rattle.model.specs.Receiver as Model
 use Rattle.model.specs.Receiver.{Call, State, is_accepted}
-use Rattle.model.specs.Questions.{Question, ask, most_calls, most_added, first_no, areas_long, held, channel_held}
+use Rattle.model.specs.Questions.{Question, ask, most_calls, most_added, first_no, areas_long, held, channel_held, clock_held, stream_held}
 use Rattle.model.specs.Step.{ChannelResult, step, on_side, waterfall_into}
 use Rattle.model.specs.WholeList.{CallBytes}
 use Rattle.model.proofs.HeldKept.{NextFits}
@@ -14,6 +14,8 @@ use Rattle.calls.specs.declared.Side.{Side}
 use Rattle.calls.specs.declared.Refusal.{Refusal}
 use Rattle.calls.specs.Views.{model_side, sizes_of}
 use Rattle.calls.specs.Refusals.{refusal_number}
+use Rattle.audio_metrics.specs.Views.{clock_of}
+use Rattle.udp.specs.Views.{counts_of}
 use Rattle.jitter_buffer.specs.View.{next_of}
 use Rattle.reassembler.specs.Rows.{completed_of, CompletedInside}
 use Rattle.channel.specs.View.{channel_in, Inside}
@@ -64,6 +66,12 @@ pub record Ready (r : Receiver) (fs : List Float) (us : List ℕ) : Type 0 where
 pub record EarlyAsked (r : Receiver) (fs : List Float) (us : List ℕ) (v : Result (Unit {0}) Refusal) : Type 0 where
   pub asked : verdict_of v ≡ first_no (early_questions (lent_of fs us) (state_of r fs us))
   pub ready : v ≡ Ok tt → Ready r fs us
+
+-- question 3 of the clock and the counts
+abbrev pub counts_held : Receiver → Bool
+counts_held r =
+    clock_held (clock_of r.clock)
+    && (leb r.incoming (r.calls * most_added) && (stream_held (r.calls * most_added) (counts_of r.audio) && stream_held (r.calls * most_added) (counts_of r.waterfall)))
 
 -- question 3: the answer is the model's, whatever floats stand in an area that is long enough; a yes tells the ranges of the fields
 pub record StateAsked (r : Receiver) (us : List ℕ) (v : Bool) : Type 0 where

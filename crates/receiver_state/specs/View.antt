@@ -1,5 +1,5 @@
 -- The model's state that the struct and the two areas hold, the model's answer of an answer, and where a channel's sections begin. Assumes nothing.
-use Rattle.std.specs.Prelude.{ℕ, ◌+◌, List, length, take, drop, Float}
+use Rattle.std.specs.Prelude.{ℕ, ◌+◌, List, length, take, drop, Float, Result, Ok, Err}
 use Rattle.std.proofs.Math.Option.{none, some}
 use Rattle.model.specs.Sizes as Sizing
 use Rattle.model.specs.Sizes.{float_section, word_section}
@@ -7,6 +7,7 @@ use Rattle.model.specs.Framing as Framing
 use Rattle.model.specs.Receiver as Model
 use Rattle.calls.specs.declared.Side.{Side}
 use Rattle.calls.specs.declared.Side.TheVariants.{A, B}
+use Rattle.calls.specs.declared.Refusal.{Refusal}
 use Rattle.calls.specs.Views.{sizes_of}
 use Rattle.calls.specs.Refusals.{refusal_number}
 use Rattle.audio_metrics.specs.Views.{clock_of}
@@ -15,7 +16,7 @@ use Rattle.channel.specs.declared.Channel.{Channel}
 use Rattle.channel.specs.View.{row_at, channel_in}
 use Rattle.receiver_state.specs.declared.Receiver.{Receiver}
 use Rattle.receiver_state.specs.declared.Answer.{Answer}
-use Rattle.receiver_state.specs.declared.Answer.TheVariants.{Refused, Accepted, Played, NoRow, Row}
+use Rattle.receiver_state.specs.declared.Answer.TheVariants.{Accepted, Played, NoRow, Row}
 
 -- ---- sections: A's begin both areas, and B's follow right after them
 
@@ -62,9 +63,9 @@ lent_of fs us = record { floats = length fs; words = length us }
 -- ---- answers: the numbers of the questions, and the values that stand in lent memory
 
 -- a play's samples are the output's; a row's values are the first of those from its place on
-abbrev pub answer_of : Answer → List Float → Model.Answer
-answer_of (Refused why) values = Model.refused (refusal_number why)
-answer_of Accepted values = Model.accepted
-answer_of (Played taken dropped short) values = Model.played (record { samples = values; taken = taken; dropped = dropped; short = short })
-answer_of NoRow values = Model.row none
-answer_of (Row n) values = Model.row (some (take n values))
+abbrev pub answer_of : Result Answer Refusal → List Float → Model.Answer
+answer_of (Err why) values = Model.refused (refusal_number why)
+answer_of (Ok Accepted) values = Model.accepted
+answer_of (Ok (Played taken dropped short)) values = Model.played (record { samples = values; taken = taken; dropped = dropped; short = short })
+answer_of (Ok NoRow) values = Model.row none
+answer_of (Ok (Row n)) values = Model.row (some (take n values))

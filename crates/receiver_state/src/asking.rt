@@ -4,54 +4,43 @@ ghost use Rattle.model.specs.Sizes.{sizes_allowed, word_area};
 ghost use Rattle.model.specs.Questions.{areas_long, estimates_finite, settings_finite};
 ghost use Rattle.calls.specs.Views.{sizes_of, model_estimates, model_settings};
 ghost use Rattle.receiver_state.specs.View.{lent_of};
-ghost use Rattle.receiver_state.specs.Promises.{StateAsked, EarlyAsked};
+ghost use Rattle.receiver_state.specs.Promises.{counts_held, StateAsked, EarlyAsked};
 
 use crate::Receiver;
-use calls::{Estimates, Refusal, Settings, Sizes};
+use calls::{Estimates, Refusal, Settings};
+use sizes::AllowedSizes;
+
+// Question 3 of the clock and the counts.
+fn counts_could_be_held(r: Receiver) -> bool
+    ensures { result ≡ counts_held r }
+{
+    r.clock.could_be_held()
+        && udp::incoming_could_be_held(r.incoming, r.calls)
+        && r.audio.could_be_held(r.calls)
+        && r.waterfall.could_be_held(r.calls)
+}
 
 // Question 3: whether a receiver could hold this state.
 fn could_be_held(r: Receiver, us: &[u32]) -> bool
     requires { (sizes_allowed (sizes_of r.sizes) ≡ true) × (word_area (sizes_of r.sizes) ≤ length us.now) }
     ensures { StateAsked r us.now result }
 {
-    let z = r.sizes;
-    let calls = r.calls;
-    let a = r.a;
-    if !a.could_be_held(z, us, calls) {
-        return false;
-    }
-    let start = sizes::word_section(z);
-    let b = r.b;
-    if !b.could_be_held(z, &us[start..], calls) {
-        return false;
-    }
-    let clock = r.clock;
-    if !clock.could_be_held() {
-        return false;
-    }
-    if !udp::incoming_could_be_held(r.incoming, calls) {
-        return false;
-    }
-    let audio = r.audio;
-    if !audio.could_be_held(calls) {
-        return false;
-    }
-    let waterfall = r.waterfall;
-    waterfall.could_be_held(calls)
+    let start = AllowedSizes { sizes: r.sizes }.word_section();
+    r.a.could_be_held(r.sizes, us, r.calls)
+        && r.b.could_be_held(r.sizes, &us[start..], r.calls)
+        && counts_could_be_held(r)
 }
 
-// Questions 1 to 4, in their order: the first that is answered with no, if one is.
+// Questions 1 to 4, in their order: the first that is answered with no, if one is. (The state goes in by value, and both areas
+// are lent with each call, since C keeps them: no struct has them together.)
 pub fn asked(r: Receiver, fs: &[f32], us: &[u32]) -> Result<(), Refusal>
     ensures { EarlyAsked r fs.now us.now result }
 {
     let z = r.sizes;
-    if !sizes::allowed(z) {
+    let Some(sizes) = AllowedSizes::of(z) else {
         return Err(Refusal::Sizes);
-    }
-    if fs.len() < sizes::float_area(z) {
-        return Err(Refusal::NoRoom);
-    }
-    if us.len() < sizes::word_area(z) {
+    };
+    if !areas_long(sizes, fs, us) {
         return Err(Refusal::NoRoom);
     }
     if !could_be_held(r, us) {
@@ -64,51 +53,37 @@ pub fn asked(r: Receiver, fs: &[f32], us: &[u32]) -> Result<(), Refusal>
 }
 
 // Question 2: whether both areas are long enough.
-pub fn areas_long(z: Sizes, fs: &[f32], us: &[u32]) -> bool
-    requires { sizes_allowed (sizes_of z) ≡ true }
-    ensures { result ≡ areas_long (lent_of fs.now us.now) (sizes_of z) }
+#[tactic(auto, unfolding(model::specs::Questions::areas_long))]
+pub fn areas_long(z: AllowedSizes, fs: &[f32], us: &[u32]) -> bool
+    ensures { result ≡ areas_long (lent_of fs.now us.now) (sizes_of z.sizes) }
 {
-    if fs.len() < sizes::float_area(z) {
-        return false;
-    }
-    sizes::word_area(z) <= us.len()
+    z.float_area() <= fs.len() && z.word_area() <= us.len()
 }
 
 // Question 5 of one channel's estimates: whether each is the pattern of a finite float.
+#[tactic(auto, unfolding(model::specs::Questions::estimates_finite, model::specs::Questions::finite_bits))]
 fn estimates_finite(e: Estimates) -> bool
     ensures { result ≡ estimates_finite (model_estimates e) }
 {
-    if !floats::is_finite(floats::from_bits(e.top)) {
-        return false;
-    }
-    if !floats::is_finite(floats::from_bits(e.floor)) {
-        return false;
-    }
-    floats::is_finite(floats::from_bits(e.range))
+    floats::is_finite(floats::from_bits(e.top))
+        && floats::is_finite(floats::from_bits(e.floor))
+        && floats::is_finite(floats::from_bits(e.range))
 }
 
 // Question 5 of both channels' estimates.
 pub fn both_finite(a: Estimates, b: Estimates) -> bool
     ensures { result ≡ estimates_finite (model_estimates a) && estimates_finite (model_estimates b) }
 {
-    if !estimates_finite(a) {
-        return false;
-    }
-    estimates_finite(b)
+    estimates_finite(a) && estimates_finite(b)
 }
 
 // Question 5 of settings: whether each is the pattern of a finite float.
+#[tactic(auto, unfolding(model::specs::Questions::settings_finite, model::specs::Questions::finite_bits))]
 pub fn settings_finite(x: Settings) -> bool
     ensures { result ≡ settings_finite (model_settings x) }
 {
-    if !floats::is_finite(floats::from_bits(x.top)) {
-        return false;
-    }
-    if !floats::is_finite(floats::from_bits(x.range)) {
-        return false;
-    }
-    if !floats::is_finite(floats::from_bits(x.zoom)) {
-        return false;
-    }
-    floats::is_finite(floats::from_bits(x.smoothing))
+    floats::is_finite(floats::from_bits(x.top))
+        && floats::is_finite(floats::from_bits(x.range))
+        && floats::is_finite(floats::from_bits(x.zoom))
+        && floats::is_finite(floats::from_bits(x.smoothing))
 }

@@ -1,9 +1,8 @@
-// What a refused call leaves, and a receiver with one part changed. Here alone a refusal is made, and accepted calls and
-// valid headers are counted.
-ghost use Rattle.std.specs.Prelude.{◌≡◌, ◌+◌, ◌<◌, ◌^◌};
+// What a call leaves, refused or not, and a receiver with one part changed. Here alone a refusal is made, and accepted calls
+// and valid headers are counted.
+ghost use Rattle.std.specs.Prelude.{◌≡◌, ◌+◌, ◌<◌, ◌^◌, Err};
 ghost use Rattle.model.specs.Questions.{most_calls};
-ghost use Rattle.receiver_state.specs.declared.Answer.TheVariants as Answer;
-ghost use Rattle.receiver_state.specs.Fields.{counted, clock_set, header_set};
+ghost use Rattle.receiver_state.specs.Fields.{answered, counted, clock_set, header_set};
 
 use crate::{Answer, Answered, Receiver};
 use audio_metrics::AudioMetrics;
@@ -12,11 +11,24 @@ use udp::StreamCounts;
 
 // What a refused call leaves and answers: the receiver as it came.
 pub fn refusal(r: Receiver, why: Refusal) -> Answered
-    ensures { result ≡ record { receiver = r; answer = Answer.Refused why } }
+    ensures { result ≡ record { receiver = r; answer = Err why } }
 {
     Answered {
         receiver: r,
-        answer: Answer::Refused(why),
+        answer: Err(why),
+    }
+}
+
+// What a call leaves and answers: its work's, or a refusal.
+pub fn answered(r: Receiver, work: Result<(Receiver, Answer), Refusal>) -> Answered
+    ensures { result ≡ answered r work }
+{
+    match work {
+        Err(why) => refusal(r, why),
+        Ok((receiver, answer)) => Answered {
+            receiver,
+            answer: Ok(answer),
+        },
     }
 }
 
@@ -25,21 +37,9 @@ pub fn count_call(r: Receiver) -> Receiver
     requires { r.calls < most_calls }
     ensures { result ≡ counted r }
 {
-    let sizes = r.sizes;
-    let audio = r.audio;
-    let waterfall = r.waterfall;
-    let a = r.a;
-    let b = r.b;
-    let clock = r.clock;
     Receiver {
-        sizes,
         calls: r.calls + 1,
-        incoming: r.incoming,
-        audio,
-        waterfall,
-        a,
-        b,
-        clock,
+        ..r
     }
 }
 
@@ -47,21 +47,7 @@ pub fn count_call(r: Receiver) -> Receiver
 pub fn with_clock(r: Receiver, clock: AudioMetrics) -> Receiver
     ensures { result ≡ clock_set clock r }
 {
-    let sizes = r.sizes;
-    let audio = r.audio;
-    let waterfall = r.waterfall;
-    let a = r.a;
-    let b = r.b;
-    Receiver {
-        sizes,
-        calls: r.calls,
-        incoming: r.incoming,
-        audio,
-        waterfall,
-        a,
-        b,
-        clock,
-    }
+    Receiver { clock, ..r }
 }
 
 // One valid header more, with these counts.
@@ -69,18 +55,10 @@ pub fn count_header(r: Receiver, audio: StreamCounts, waterfall: StreamCounts) -
     requires { r.incoming + 1 < 2 ^ 64 }
     ensures { result ≡ header_set audio waterfall r }
 {
-    let sizes = r.sizes;
-    let a = r.a;
-    let b = r.b;
-    let clock = r.clock;
     Receiver {
-        sizes,
-        calls: r.calls,
         incoming: r.incoming + 1,
         audio,
         waterfall,
-        a,
-        b,
-        clock,
+        ..r
     }
 }

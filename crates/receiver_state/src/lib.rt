@@ -28,11 +28,9 @@ pub struct Receiver {
     pub clock: AudioMetrics,
 }
 
-// What a call answers.
-#[derive(Clone, Copy)]
+// What an accepted call answers.
+#[derive(Clone, Copy, PartialEq, Eq, Debug)]
 pub enum Answer {
-    // The first question that was answered with no. Nothing was changed.
-    Refused(Refusal),
     Accepted,
     // A play: samples taken from the queue, dropped before them, and made up behind them.
     Played {
@@ -46,9 +44,10 @@ pub enum Answer {
     Row(usize),
 }
 
-// What a call leaves and answers.
+// What a call leaves and answers. Where it is refused, the error is the first question that was answered with no, and nothing
+// was changed.
 #[derive(Clone, Copy)]
 pub struct Answered {
     pub receiver: Receiver,
-    pub answer: Answer,
+    pub answer: Result<Answer, Refusal>,
 }

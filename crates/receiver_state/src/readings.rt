@@ -10,17 +10,16 @@ use crate::Receiver;
 use crate::sides::{channel_of, starts};
 use calls::{Refusal, Side, Sizes};
 use jitter_buffer::JitterBuffer;
+use sizes::AllowedSizes;
 
 // Where a channel's row begins in the f32 area: the values of a completed row stand there. Sizes that question 1 refuses have
 // no places.
 pub fn row_place(z: Sizes, side: Side) -> Option<usize>
     ensures { result ≡ place_in z (row_place (sizes_of z) side) }
 {
-    if !sizes::allowed(z) {
-        return None;
-    }
-    let begin = starts(z, side);
-    let offsets = sizes::section_offsets(z);
+    let sizes = AllowedSizes::of(z)?;
+    let begin = starts(sizes, side);
+    let offsets = sizes.section_offsets();
     let at = begin.floats + offsets.row;
     Some(at)
 }
@@ -30,11 +29,9 @@ pub fn row_place(z: Sizes, side: Side) -> Option<usize>
 pub fn picture_place(z: Sizes, side: Side) -> Option<usize>
     ensures { result ≡ place_in z (picture_place (sizes_of z) side) }
 {
-    if !sizes::allowed(z) {
-        return None;
-    }
-    let from = starts(z, side);
-    let most = sizes::most_waiting(z);
+    let sizes = AllowedSizes::of(z)?;
+    let from = starts(sizes, side);
+    let most = sizes.most_waiting();
     let at = from.words + most;
     Some(at)
 }
@@ -44,10 +41,10 @@ pub fn picture_place(z: Sizes, side: Side) -> Option<usize>
 fn buffered_in(z: Sizes, jitter: JitterBuffer) -> Result<usize, Refusal>
     ensures { result ≡ buffered_in z jitter }
 {
-    if !sizes::allowed(z) {
+    let Some(sizes) = AllowedSizes::of(z) else {
         return Err(Refusal::Sizes);
-    }
-    if jitter.pending_len > sizes::most_waiting(z) {
+    };
+    if jitter.pending_len > sizes.most_waiting() {
         return Err(Refusal::NotHeld);
     }
     if jitter.playout_len >= z.target + z.packet {
@@ -61,8 +58,5 @@ fn buffered_in(z: Sizes, jitter: JitterBuffer) -> Result<usize, Refusal>
 pub fn buffered_samples(r: Receiver, side: Side) -> Result<usize, Refusal>
     ensures { result ≡ buffered_in r.sizes (channel_at side r).jitter }
 {
-    let z = r.sizes;
-    let channel = channel_of(r, side);
-    let jitter = channel.jitter;
-    buffered_in(z, jitter)
+    buffered_in(r.sizes, channel_of(r, side).jitter)
 }

@@ -68,20 +68,13 @@ fn stream_in(counts: StreamCounts) -> StreamReport
 pub fn report_of(r: Receiver) -> Report
     ensures { result ≡ report_of r }
 {
-    let a = r.a;
-    let b = r.b;
-    let first = a.jitter;
-    let second = b.jitter;
-    let clock = r.clock;
-    let timing = clock.timing;
-    let one_way = clock.one_way;
     Report {
-        a: sound_in(first),
-        b: sound_in(second),
+        a: sound_in(r.a.jitter),
+        b: sound_in(r.b.jitter),
         incoming: r.incoming,
         audio: stream_in(r.audio),
         waterfall: stream_in(r.waterfall),
-        timing,
-        one_way,
+        timing: r.clock.timing,
+        one_way: r.clock.one_way,
     }
 }

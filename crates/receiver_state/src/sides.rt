@@ -2,7 +2,6 @@
 // the middle of each area, and what is lent on to the channel's functions is the area from there on.
 ghost use Rattle.std.specs.Prelude.{◌≡◌, true};
 ghost use Rattle.std.proofs.Math.Option.{none};
-ghost use Rattle.model.specs.Sizes.{sizes_allowed};
 ghost use Rattle.model.specs.Receiver.{row};
 ghost use Rattle.model.specs.Questions.{total_allowed};
 ghost use Rattle.model.specs.Step.{audio_into};
@@ -12,8 +11,9 @@ ghost use Rattle.receiver_state.specs.Fields.{channel_set};
 ghost use Rattle.receiver_state.specs.Promises.{SidesReady, SideTaken, RowsTaken};
 
 use crate::Receiver;
-use calls::{Side, Sizes};
+use calls::Side;
 use channel::Channel;
+use sizes::AllowedSizes;
 
 // Where a channel's sections begin in the two areas.
 #[derive(Clone, Copy)]
@@ -22,9 +22,8 @@ pub struct SectionStarts {
     pub words: usize,
 }
 
-pub fn starts(z: Sizes, side: Side) -> SectionStarts
-    requires { sizes_allowed (sizes_of z) ≡ true }
-    ensures { (result.floats ≡ float_start (sizes_of z) side) × (result.words ≡ word_start (sizes_of z) side) }
+pub fn starts(z: AllowedSizes, side: Side) -> SectionStarts
+    ensures { (result.floats ≡ float_start (sizes_of z.sizes) side) × (result.words ≡ word_start (sizes_of z.sizes) side) }
 {
     match side {
         Side::A => SectionStarts {
@@ -32,8 +31,8 @@ pub fn starts(z: Sizes, side: Side) -> SectionStarts
             words: 0,
         },
         Side::B => SectionStarts {
-            floats: sizes::float_section(z),
-            words: sizes::word_section(z),
+            floats: z.float_section(),
+            words: z.word_section(),
         },
     }
 }
@@ -51,33 +50,9 @@ pub fn channel_of(r: Receiver, side: Side) -> Channel
 pub fn with_channel(r: Receiver, side: Side, channel: Channel) -> Receiver
     ensures { result ≡ channel_set side channel r }
 {
-    let sizes = r.sizes;
-    let audio = r.audio;
-    let waterfall = r.waterfall;
-    let a = r.a;
-    let b = r.b;
-    let clock = r.clock;
     match side {
-        Side::A => Receiver {
-            sizes,
-            calls: r.calls,
-            incoming: r.incoming,
-            audio,
-            waterfall,
-            a: channel,
-            b,
-            clock,
-        },
-        Side::B => Receiver {
-            sizes,
-            calls: r.calls,
-            incoming: r.incoming,
-            audio,
-            waterfall,
-            a,
-            b: channel,
-            clock,
-        },
+        Side::A => Receiver { a: channel, ..r },
+        Side::B => Receiver { b: channel, ..r },
     }
 }
 
@@ -94,7 +69,7 @@ pub fn audio_on(
     ensures { SideTaken side (audio_into (sizes_of r.sizes) sequence payload.now) r fs.old us.old (row none) result fs.new us.new }
 {
     let z = r.sizes;
-    let begin = starts(z, side);
+    let begin = starts(AllowedSizes { sizes: z }, side);
     let f = begin.floats;
     let w = begin.words;
     let before = channel_of(r, side);
@@ -121,10 +96,11 @@ pub fn waterfall_on(
     ensures { RowsTaken side r fs.old us.old payload.now result fs.new us.new }
 {
     let z = r.sizes;
-    let begin = starts(z, side);
+    let sizes = AllowedSizes { sizes: z };
+    let begin = starts(sizes, side);
     let f = begin.floats;
     let w = begin.words;
-    let twice = 2 * sizes::float_section(z);
+    let twice = 2 * sizes.float_section();
     let end = twice + z.bins;
     let before = channel_of(r, side);
     let shown = before.waterfall(z, &mut fs[f..end], twice - f, &mut us[w..], payload);

@@ -14,7 +14,7 @@ use Rattle.calls.specs.Refusals.{refusal_number}
 use Rattle.channel.specs.declared.Channel.{Channel}
 use Rattle.receiver_state.specs.declared.Receiver.{Receiver}
 use Rattle.receiver_state.specs.declared.Answer.{Answer}
-use Rattle.receiver_state.specs.declared.Answer.TheVariants.{Refused, Accepted, Played, NoRow, Row}
+use Rattle.receiver_state.specs.declared.Answer.TheVariants.{Accepted, Played, NoRow, Row}
 use Rattle.receiver_state.specs.declared.Answered.{Answered}
 use Rattle.receiver_words.specs.Words.{sizes_in, counts_in, buffer_in, screen_in, count_words, buffer_words, screen_words}
 
@@ -82,19 +82,16 @@ receiver_words r =
 -- ---- answers
 
 -- 0 and a refusal's number; 1: accepted; 2, taken, dropped and short; 3: no row; 4 and the bins of a completed row
-abbrev pub answer_words : Answer → List ℕ
-answer_words (Refused why) = 0 ∷ refusal_number why ∷ 0 ∷ 0 ∷ []
-answer_words Accepted = 1 ∷ 0 ∷ 0 ∷ 0 ∷ []
-answer_words (Played taken dropped short) = 2 ∷ taken ∷ dropped ∷ short ∷ []
-answer_words NoRow = 3 ∷ 0 ∷ 0 ∷ 0 ∷ []
-answer_words (Row n) = 4 ∷ n ∷ 0 ∷ 0 ∷ []
+abbrev pub answer_words : Result Answer Refusal → List ℕ
+answer_words (Err why) = 0 ∷ refusal_number why ∷ 0 ∷ 0 ∷ []
+answer_words (Ok Accepted) = 1 ∷ 0 ∷ 0 ∷ 0 ∷ []
+answer_words (Ok (Played taken dropped short)) = 2 ∷ taken ∷ dropped ∷ short ∷ []
+answer_words (Ok NoRow) = 3 ∷ 0 ∷ 0 ∷ 0 ∷ []
+answer_words (Ok (Row n)) = 4 ∷ n ∷ 0 ∷ 0 ∷ []
 
-abbrev pub is_refused : Answer → Bool
-is_refused (Refused why) = true
-is_refused Accepted = false
-is_refused (Played taken dropped short) = false
-is_refused NoRow = false
-is_refused (Row n) = false
+abbrev pub is_refused : Result Answer Refusal → Bool
+is_refused (Err why) = true
+is_refused (Ok a) = false
 
 -- the words of a state after a call: a refusal leaves each as it was
 unfoldable pub state_left : Answered → List ℕ → List ℕ

@@ -1,7 +1,7 @@
 // A receiver in words, and its answers.
 ghost use Rattle.std.specs.Prelude.{◌≡◌, ◌≤◌, length};
 ghost use Rattle.std.proofs.lemmas.List.Edits.{sets};
-ghost use Rattle.receiver_words.specs.State.{channel_read, receiver_at, head_words, receiver_words, answer_words, is_refused, state_left, setup_words, setup_left};
+ghost use Rattle.receiver_words.specs.State.{channel_read, receiver_at, head_words, receiver_words, answer_words, state_left, setup_words, setup_left};
 
 use crate::clock::clock_from;
 use crate::words::{
@@ -66,60 +66,43 @@ fn write_receiver(w: &mut [u64], r: Receiver)
     requires { 90 ≤ length w.old }
     ensures { w.new ≡ sets w.old 0 (receiver_words r) }
 {
-    let a = r.a;
-    let b = r.b;
     put(w, 0, &head_words(r));
     put(w, 8, &count_words(r.audio));
     put(w, 13, &count_words(r.waterfall));
-    put(w, 18, &buffer_words(a.jitter));
-    put(w, 32, &screen_words(a.screen));
-    put(w, 47, &buffer_words(b.jitter));
-    put(w, 61, &screen_words(b.screen));
+    put(w, 18, &buffer_words(r.a.jitter));
+    put(w, 32, &screen_words(r.a.screen));
+    put(w, 47, &buffer_words(r.b.jitter));
+    put(w, 61, &screen_words(r.b.screen));
     put(w, 76, &to_words(r.clock));
 }
 
-fn answer_words(a: Answer) -> [u64; 4]
-    ensures { result ≡ answer_words a }
+fn answer_words(answer: Result<Answer, Refusal>) -> [u64; 4]
+    ensures { result ≡ answer_words answer }
 {
-    match a {
-        Answer::Refused(why) => [0, why.number() as u64, 0, 0],
-        Answer::Accepted => [1, 0, 0, 0],
-        Answer::Played {
-            taken,
-            dropped,
-            short,
-        } => [2, taken as u64, dropped as u64, short as u64],
-        Answer::NoRow => [3, 0, 0, 0],
-        Answer::Row(n) => [4, n as u64, 0, 0],
-    }
-}
-
-fn is_refused(a: Answer) -> bool
-    ensures { result ≡ is_refused a }
-{
-    match a {
-        Answer::Refused(_) => true,
-        Answer::Accepted => false,
-        Answer::Played {
-            taken: _,
-            dropped: _,
-            short: _,
-        } => false,
-        Answer::NoRow => false,
-        Answer::Row(_) => false,
+    match answer {
+        Err(why) => [0, why.number() as u64, 0, 0],
+        Ok(Answer::Accepted) => [1, 0, 0, 0],
+        Ok(
+            Answer::Played {
+                taken,
+                dropped,
+                short,
+            },
+        ) => [2, taken as u64, dropped as u64, short as u64],
+        Ok(Answer::NoRow) => [3, 0, 0, 0],
+        Ok(Answer::Row(n)) => [4, n as u64, 0, 0],
     }
 }
 
 // What a call left and answered, in words. A refusal leaves the state's as they were.
+#[tactic(auto, unfolding(crate::specs::State::state_left))]
 pub fn leave(state: &mut [u64], answer: &mut [u64], v: Answered)
     requires { (90 ≤ length state.old) × (4 ≤ length answer.old) }
     ensures { (state.new ≡ state_left v state.old) × (answer.new ≡ sets answer.old 0 (answer_words v.answer)) }
 {
-    let a = v.answer;
-    let after = v.receiver;
-    put(answer, 0, &answer_words(a));
-    if !is_refused(a) {
-        write_receiver(state, after);
+    put(answer, 0, &answer_words(v.answer));
+    if v.answer.is_ok() {
+        write_receiver(state, v.receiver);
     }
 }
 

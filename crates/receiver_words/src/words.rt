@@ -136,7 +136,7 @@ pub fn buffer_words(j: JitterBuffer) -> [u64; 14]
 // ---- a screen
 
 fn row_from(w: &[u64]) -> Option<OpenRow>
-    requires { 15 ≤ length w.now }
+    requires { 5 ≤ length w.now }
     ensures { result ≡ row_in w.now }
 {
     if w[0] == 0 {

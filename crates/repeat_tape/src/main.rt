@@ -7,66 +7,86 @@
 
 mod rounds;
 
-use receiver_state::Receiver;
+use crate::rounds::Areas;
+use input::ReadFailed;
+use std::fmt;
 use std::io::Stdin;
+use tape::Setup;
+use tape::reader::setup_of;
 use udp_framing::big_endian::BigEndian;
 
-// File descriptors.
-const STDERR_FILENO: i32 = 2;
-
-const STDOUT_FILENO: i32 = 1;
-
-fn say(sentence: &[u8]) {
-    io::write_all(STDERR_FILENO, sentence);
+// What is printed of the rounds.
+#[derive(Clone, Copy)]
+struct Totals {
+    // The last samples' bit patterns, added up.
+    patterns: u64,
+    // The accepted calls.
+    calls: u64,
 }
 
-fn tell(samples: &[f32], r: Receiver) {
-    io::print_decimal(STDOUT_FILENO, rounds::sum_of(samples));
-    io::write_all(STDOUT_FILENO, b" ");
-    io::print_decimal(STDOUT_FILENO, r.calls);
-    io::write_all(STDOUT_FILENO, b"\n");
+// Why nothing was repeated.
+#[derive(Clone, Copy)]
+enum Failure {
+    Unread,
+    NoRounds,
+    TapeRefused,
+    SetupRefused,
+}
+
+impl fmt::Display for Failure {
+    fn fmt<W: fmt::Write>(&self, f: &mut fmt::Formatter<W>) -> fmt::Result {
+        f.write_str(match self {
+            Failure::Unread => "standard input could not be read",
+            Failure::NoRounds => "there is no number of rounds",
+            Failure::TapeRefused => "the tape is refused",
+            Failure::SetupRefused => "the setup is refused",
+        })
+    }
+}
+
+impl From<ReadFailed> for Failure {
+    fn from(_: ReadFailed) -> Failure {
+        Failure::Unread
+    }
 }
 
 // All rounds over the areas that were lent.
-fn repeat(tape: &mut [u8], count: u32, fs: &mut [f32], us: &mut [u32], samples: &mut [f32]) {
-    let Ok(setup) = tape::reader::setup_of(tape) else {
-        say(b"repeat_tape: the tape is refused\n");
-        return;
-    };
-    let Ok(begun) = receiver_setup::setup(setup.sizes, setup.a, setup.b, fs, us) else {
-        say(b"repeat_tape: the setup is refused\n");
-        return;
-    };
-    let r = rounds::all(begun, tape, count, fs, us, samples);
-    tell(samples, r);
+fn repeat(tape: &mut [u8], count: u32, areas: &mut Areas) -> Result<Totals, Failure> {
+    let Setup { sizes, a, b } = setup_of(tape).map_err(|_| Failure::TapeRefused)?;
+    let begun = receiver_setup::setup(sizes, a, b, &areas.fs, &mut areas.us);
+    let begun = begun.map_err(|_| Failure::SetupRefused)?;
+    let r = rounds::all(begun, tape, count, areas);
+    Ok(Totals {
+        patterns: rounds::sum_of(&areas.samples),
+        calls: r.calls,
+    })
 }
 
-// The words for a picture of 1024 × 412 on each channel are more than one function may both make and lend as a slice.
-fn with_words(tape: &mut [u8], count: u32, us: &mut [u32; 900000]) {
-    let mut fs = [0.0f32; 600000];
-    let mut samples = [0.0f32; 65535];
-    repeat(tape, count, &mut fs, us, &mut samples);
-}
-
-fn lend(tape: &mut [u8], count: u32) {
-    let mut us = [0u32; 900000];
-    with_words(tape, count, &mut us);
-}
-
-fn run(mut stdin: Stdin, bytes: &mut [u8]) {
-    let Ok(n) = input::read_all(&mut stdin, bytes) else {
-        say(b"repeat_tape: standard input could not be read\n");
-        return;
+// The words for a picture of 1024 × 412 on each channel are more than one function may both make and lend as a slice:
+// the areas are made here, and lent whole.
+fn lend(tape: &mut [u8], count: u32) -> Result<Totals, Failure> {
+    let mut areas = Areas {
+        fs: [0.0; 600000],
+        us: [0; 900000],
+        samples: [0.0; 65535],
     };
+    repeat(tape, count, &mut areas)
+}
+
+fn run(mut stdin: Stdin, bytes: &mut [u8]) -> Result<Totals, Failure> {
+    let n = input::read_all(&mut stdin, bytes)?;
     if n < 4 {
-        say(b"repeat_tape: there is no number of rounds\n");
-        return;
+        return Err(Failure::NoRounds);
     }
     let count = u32::read_from(bytes, 0);
-    lend(&mut bytes[4..n], count);
+    lend(&mut bytes[4..n], count)
 }
 
+// A line that cannot be written is left out.
 fn main(rt: HostRuntime) {
     let mut bytes = [0u8; 524292];
-    run(rt.stdin(), &mut bytes);
+    let _ = match run(rt.stdin(), &mut bytes) {
+        Ok(Totals { patterns, calls }) => println!(rt; "{patterns} {calls}"),
+        Err(why) => eprintln!(rt; "repeat_tape: {why}"),
+    };
 }

@@ -1,6 +1,6 @@
 // Rounds of the calls of a tape.
-use receiver_state::Receiver;
-use replaying::acting::{Acted, act};
+use receiver_state::{Answered, Receiver};
+use replaying::acting::{NotMade, act};
 use tape::reader::{call_at, step_at};
 
 // The place of a tape's first call.
@@ -12,6 +12,14 @@ struct Standing {
     receiver: Receiver,
     place: usize,
     sequence: u32,
+}
+
+// What is lent to the calls.
+#[derive(Drop)]
+pub struct Areas {
+    pub fs: [f32; 600000],
+    pub us: [u32; 900000],
+    pub samples: [f32; 65535],
 }
 
 // The bit patterns, added up.
@@ -50,33 +58,22 @@ fn number_at(tape: &mut [u8], place: usize, sequence: u32, row: u16) -> u32 {
     number(&mut tape[4 * place..], sequence, row)
 }
 
-fn made(
-    r: Receiver,
-    tape: &[u8],
-    place: usize,
-    fs: &mut [f32],
-    us: &mut [u32],
-    samples: &mut [f32],
-) -> Acted {
-    act(r, fs, us, tape, call_at(tape, place), samples)
+fn made(r: Receiver, tape: &[u8], place: usize, areas: &mut Areas) -> Result<Answered, NotMade> {
+    act(
+        r,
+        &mut areas.fs,
+        &mut areas.us,
+        tape,
+        call_at(tape, place),
+        &mut areas.samples,
+    )
 }
 
 // Makes the next call, numbered. None where no call comes after it.
-fn turn(
-    t: Standing,
-    tape: &mut [u8],
-    row: u16,
-    fs: &mut [f32],
-    us: &mut [u32],
-    samples: &mut [f32],
-) -> Option<Standing> {
+fn turn(t: Standing, tape: &mut [u8], row: u16, areas: &mut Areas) -> Option<Standing> {
     let sequence = number_at(tape, t.place, t.sequence, row);
-    let Ok(Some(place)) = step_at(tape, t.place) else {
-        return None;
-    };
-    let Acted::Made(v) = made(t.receiver, tape, t.place, fs, us, samples) else {
-        return None;
-    };
+    let place = step_at(tape, t.place).ok()??;
+    let v = made(t.receiver, tape, t.place, areas).ok()?;
     Some(Standing {
         receiver: v.receiver,
         place,
@@ -85,17 +82,10 @@ fn turn(
 }
 
 // All calls of the tape once. There are no more of them than bytes.
-fn round(
-    begun: Standing,
-    tape: &mut [u8],
-    row: u16,
-    fs: &mut [f32],
-    us: &mut [u32],
-    samples: &mut [f32],
-) -> Standing {
+fn round(begun: Standing, tape: &mut [u8], row: u16, areas: &mut Areas) -> Standing {
     let mut t = begun;
     for _ in 0..tape.len() {
-        let Some(next) = turn(t, tape, row, fs, us, samples) else {
+        let Some(next) = turn(t, tape, row, areas) else {
             return t;
         };
         t = next;
@@ -104,14 +94,7 @@ fn round(
 }
 
 // So many rounds, each from the first call on.
-pub fn all(
-    receiver: Receiver,
-    tape: &mut [u8],
-    count: u32,
-    fs: &mut [f32],
-    us: &mut [u32],
-    samples: &mut [f32],
-) -> Receiver {
+pub fn all(receiver: Receiver, tape: &mut [u8], count: u32, areas: &mut Areas) -> Receiver {
     let mut t = Standing {
         receiver,
         place: FIRST_PLACE,
@@ -122,7 +105,7 @@ pub fn all(
             place: FIRST_PLACE,
             ..t
         };
-        t = round(first, tape, (i % 65536) as u16, fs, us, samples);
+        t = round(first, tape, (i % 65536) as u16, areas);
     }
     t.receiver
 }

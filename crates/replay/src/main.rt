@@ -4,29 +4,67 @@
 
 mod output;
 
+use crate::output::Areas;
+use input::ReadFailed;
 use std::io::Stdin;
+use std::{fmt, io};
 
-// The tape that was read.
-fn replay(tape: &[u8]) {
-    if 65536 < tape.len() {
-        output::say(b"replay: the tape is longer than 65536 bytes\n");
-    }
-    let mut fs = [0.0f32; 16384];
-    let mut us = [0u32; 16384];
-    let mut text = [0u8; 8192];
-    output::print(tape, &mut fs, &mut us, &mut text);
+// Why the replay is not printed to its end.
+#[derive(Clone, Copy)]
+enum Failure {
+    Unread,
+    Unwritten,
 }
 
-// Of a longer tape one byte more than the limit is read.
-fn run(mut stdin: Stdin, tape: &mut [u8]) {
-    let Ok(n) = input::read_all(&mut stdin, tape) else {
-        output::say(b"replay: standard input could not be read\n");
-        return;
+impl fmt::Display for Failure {
+    fn fmt<W: fmt::Write>(&self, f: &mut fmt::Formatter<W>) -> fmt::Result {
+        f.write_str(match self {
+            Failure::Unread => "standard input could not be read",
+            Failure::Unwritten => "standard output could not be written",
+        })
+    }
+}
+
+impl From<ReadFailed> for Failure {
+    fn from(_: ReadFailed) -> Failure {
+        Failure::Unread
+    }
+}
+
+impl From<io::Error> for Failure {
+    fn from(_: io::Error) -> Failure {
+        Failure::Unwritten
+    }
+}
+
+// A sentence on standard error. One that cannot be written is left out.
+fn say(rt: &impl Eprint, sentence: impl fmt::Display + Drop) {
+    let _ = eprintln!(rt; "replay: {sentence}");
+}
+
+// The tape that was read.
+fn replay(rt: &impl Print, tape: &[u8]) -> io::Result<()> {
+    let mut areas = Areas {
+        fs: [0.0; 16384],
+        us: [0; 16384],
+        text: [0; 8192],
     };
-    replay(&tape[..n]);
+    output::print(rt, tape, &mut areas)
+}
+
+// Of a longer tape one byte more than the limit is read: it is told, and refused by its replay.
+fn run(rt: &(impl Print + Eprint), mut stdin: Stdin, tape: &mut [u8]) -> Result<(), Failure> {
+    let n = input::read_all(&mut stdin, tape)?;
+    if 65536 < n {
+        say(rt, "the tape is longer than 65536 bytes");
+    }
+    replay(rt, &tape[..n])?;
+    Ok(())
 }
 
 fn main(rt: HostRuntime) {
     let mut tape = [0u8; 65537];
-    run(rt.stdin(), &mut tape);
+    if let Err(why) = run(&rt, rt.stdin(), &mut tape) {
+        say(&rt, why);
+    }
 }

@@ -5,7 +5,7 @@ use mathlib.Core.List.{List, [], ◌∷◌, ◌++◌, map, append-nil}
 use native.Mathlib.Omega.{arith}
 use lib.ListN.{length}
 use lib.Ieee.{Float}
-use Rattle.std.proofs.Common.{Option, Some}
+use Rattle.std.proofs.Common.{Option, Some, Result, Ok, Err}
 use Rattle.model.specs.Framing.{Side}
 use Rattle.model.specs.Replay.{decimal, line, answer_line}
 use Rattle.calls.specs.declared.Refusal.{Refusal}
@@ -14,14 +14,14 @@ use Rattle.text.proofs.WrittenLaws.{none_placed}
 use Rattle.lines.specs.Lines.{head, Piece}
 use Rattle.lines.proofs.Pieces.{piece_length, piece_target, play_line_pieces, row_line_pieces, refused_line_is}
 use Rattle.receiver_state.specs.declared.Answer.{Answer}
-use Rattle.receiver_state.specs.declared.Answer.TheVariants.{Refused, Accepted, Played, NoRow, Row}
+use Rattle.receiver_state.specs.declared.Answer.TheVariants.{Accepted, Played, NoRow, Row}
 use Rattle.receiver_state.specs.View.{answer_of}
 use Rattle.replaying.specs.declared.printing.Left.{Left}
 use Rattle.replaying.specs.declared.printing.Left.TheVariants.{Nothing, Samples, Values}
 use Rattle.replaying.specs.Printing.{left_of, left_behind, LineBegun}
 
 -- a piece that had room
-piece_begun : {most written : ℕ} {text entry exit : List ℕ} {p : Option ℕ} (side : Side) (a : Answer) (left : Left) → left ≡ left_behind a → most ≤ length entry → Piece most text entry exit p
+piece_begun : {most written : ℕ} {text entry exit : List ℕ} {p : Option ℕ} (side : Side) (a : Result Answer Refusal) (left : Left) → left ≡ left_behind a → most ≤ length entry → Piece most text entry exit p
     → p ≡ Some written → ((values : List Float) → answer_line side (answer_of a values) ≡ text ++ left_of left values)
     → LineBegun side a entry exit (record { written = written; left = left })
 piece_begun {most} {written} {text} {entry} side a left left_is room piece answered is =
@@ -29,27 +29,27 @@ piece_begun {most} {written} {text} {entry} side a left left_is room piece answe
 
 module _ (side : Side) {written : ℕ} {entry exit : List ℕ} {p : Option ℕ} (room : 66 ≤ length entry) (answered : p ≡ Some written) where
   pub refused_begun : (why : Refusal) → Piece 23 (line 88 (map decimal (refusal_number why ∷ []))) entry exit p
-      → LineBegun side (Refused why) entry exit (record { written = written; left = Nothing })
+      → LineBegun side (Err why) entry exit (record { written = written; left = Nothing })
   unfolding answer_line
   refused_begun why piece =
-      piece_begun side (Refused why) Nothing refl (omega arith) piece answered (λ values. refused_line_is (refusal_number why) ∙ sym (append-nil _))
+      piece_begun side (Err why) Nothing refl (omega arith) piece answered (λ values. refused_line_is (refusal_number why) ∙ sym (append-nil _))
 
   pub played_begun : (taken dropped short : ℕ) → Piece 66 (head 80 side (taken ∷ dropped ∷ short ∷ [])) entry exit p
-      → LineBegun side (Played taken dropped short) entry exit (record { written = written; left = Samples })
+      → LineBegun side (Ok (Played taken dropped short)) entry exit (record { written = written; left = Samples })
   unfolding answer_line
   played_begun taken dropped short piece =
-      piece_begun side (Played taken dropped short) Samples refl room piece answered
+      piece_begun side (Ok (Played taken dropped short)) Samples refl room piece answered
       (λ values. play_line_pieces side (record { samples = values; taken = taken; dropped = dropped; short = short }))
 
-  pub row_begun : (n : ℕ) → Piece 3 (head 87 side []) entry exit p → LineBegun side (Row n) entry exit (record { written = written; left = Values n })
+  pub row_begun : (n : ℕ) → Piece 3 (head 87 side []) entry exit p → LineBegun side (Ok (Row n)) entry exit (record { written = written; left = Values n })
   unfolding answer_line
-  row_begun n piece = piece_begun side (Row n) (Values n) refl (omega arith) piece answered (λ values. row_line_pieces side _)
+  row_begun n piece = piece_begun side (Ok (Row n)) (Values n) refl (omega arith) piece answered (λ values. row_line_pieces side _)
 
 -- answers without a line
-pub accepted_begun : (side : Side) (entry : List ℕ) → LineBegun side Accepted entry entry (record { written = 0; left = Nothing })
+pub accepted_begun : (side : Side) (entry : List ℕ) → LineBegun side (Ok Accepted) entry entry (record { written = 0; left = Nothing })
 unfolding answer_line
 accepted_begun side entry = record { text = []; written = refl; target = sym (none_placed 0 entry); left = refl; line = λ values. refl }
 
-pub no_row_begun : (side : Side) (entry : List ℕ) → LineBegun side NoRow entry entry (record { written = 0; left = Nothing })
+pub no_row_begun : (side : Side) (entry : List ℕ) → LineBegun side (Ok NoRow) entry entry (record { written = 0; left = Nothing })
 unfolding answer_line
 no_row_begun side entry = record { text = []; written = refl; target = sym (none_placed 0 entry); left = refl; line = λ values. refl }

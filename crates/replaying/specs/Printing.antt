@@ -1,11 +1,12 @@
 -- How a call's line begins, and what is left of it. Assumes nothing.
-use Rattle.std.specs.Prelude.{ℕ, ◌≡◌, List, [], ◌∷◌, ◌++◌, map, length, take, Float}
+use Rattle.std.specs.Prelude.{ℕ, ◌≡◌, List, [], ◌∷◌, ◌++◌, map, length, take, Float, Result, Ok, Err}
 use Rattle.model.specs.Bytes.{placed}
 use Rattle.model.specs.Framing.{Side}
 use Rattle.model.specs.Replay.{hex_bits, answer_line}
+use Rattle.calls.specs.declared.Refusal.{Refusal}
 use Rattle.lines.specs.Lines.{spaced}
 use Rattle.receiver_state.specs.declared.Answer.{Answer}
-use Rattle.receiver_state.specs.declared.Answer.TheVariants.{Refused, Accepted, Played, NoRow, Row}
+use Rattle.receiver_state.specs.declared.Answer.TheVariants.{Accepted, Played, NoRow, Row}
 use Rattle.receiver_state.specs.View.{answer_of}
 use Rattle.replaying.specs.declared.printing.Left.{Left}
 use Rattle.replaying.specs.declared.printing.Left.TheVariants.{Nothing, Samples, Values}
@@ -22,15 +23,15 @@ left_of Samples values = values_ended values
 left_of (Values n) values = values_ended (take n values)
 
 -- a play has its samples left, and a row its values
-abbrev pub left_behind : Answer → Left
-left_behind (Refused why) = Nothing
-left_behind Accepted = Nothing
-left_behind (Played taken dropped short) = Samples
-left_behind NoRow = Nothing
-left_behind (Row n) = Values n
+abbrev pub left_behind : Result Answer Refusal → Left
+left_behind (Err why) = Nothing
+left_behind (Ok Accepted) = Nothing
+left_behind (Ok (Played taken dropped short)) = Samples
+left_behind (Ok NoRow) = Nothing
+left_behind (Ok (Row n)) = Values n
 
 -- a line's beginning stands at the front, and with what is left it is the line of the answer
-pub record LineBegun (side : Side) (a : Answer) (entry exit : List ℕ) (b : Begun) : Type 0 where
+pub record LineBegun (side : Side) (a : Result Answer Refusal) (entry exit : List ℕ) (b : Begun) : Type 0 where
   pub text : List ℕ
   pub written : b.written ≡ length text
   pub target : exit ≡ placed 0 text entry

@@ -3,10 +3,10 @@ ghost use Rattle.std.specs.Prelude.{◌≤◌, length};
 ghost use Rattle.calls.specs.Views.{model_side};
 ghost use Rattle.replaying.specs.Printing.{LineBegun};
 
-use calls::Side;
+use calls::{Refusal, Side};
 use receiver_state::Answer;
 
-// What is still to be written of a line.
+// What is still to be written of a line. (No Option: samples, of which the caller knows how many there are, are not a row's values.)
 #[derive(Clone, Copy)]
 pub enum Left {
     Nothing,
@@ -24,24 +24,26 @@ pub struct Begun {
 }
 
 // 66 bytes are the most that are written.
-pub fn begin_line(text: &mut [u8], side: Side, answer: Answer) -> Begun
+pub fn begin_line(text: &mut [u8], side: Side, answer: Result<Answer, Refusal>) -> Begun
     requires { 66 ≤ length text.old }
     ensures { LineBegun (model_side side) answer text.old text.new result }
 {
     match answer {
-        Answer::Refused(why) => Begun {
+        Err(why) => Begun {
             written: lines::put_line(text, b'X', &[why.number() as u64]).unwrap(),
             left: Left::Nothing,
         },
-        Answer::Accepted | Answer::NoRow => Begun {
+        Ok(Answer::Accepted | Answer::NoRow) => Begun {
             written: 0,
             left: Left::Nothing,
         },
-        Answer::Played {
-            taken,
-            dropped,
-            short,
-        } => {
+        Ok(
+            Answer::Played {
+                taken,
+                dropped,
+                short,
+            },
+        ) => {
             let head = lines::put_head(
                 text,
                 b'P',
@@ -53,7 +55,7 @@ pub fn begin_line(text: &mut [u8], side: Side, answer: Answer) -> Begun
                 left: Left::Samples,
             }
         }
-        Answer::Row(n) => Begun {
+        Ok(Answer::Row(n)) => Begun {
             written: lines::put_head(text, b'W', side, &[]).unwrap(),
             left: Left::Values(n),
         },

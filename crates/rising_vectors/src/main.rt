@@ -3,12 +3,11 @@
 // found, what was expected, and whether the two are equal.
 #![tactic(auto)]
 
-ghost use Rattle.std.specs.Prelude.{◌≡◌, ◌<◌, length};
+ghost use Rattle.std.specs.Prelude.{◌≡◌, length};
 ghost use Rattle.model.specs.Floats.{finite};
 ghost use Rattle.model.specs.Bytes.{all};
 
-// A file descriptor.
-const STDOUT_FILENO: i32 = 1;
+use std::fmt;
 
 // The sort that is held against the vectors.
 #[derive(Clone, Copy)]
@@ -17,52 +16,41 @@ enum Sort {
     Digits,
 }
 
+impl fmt::Display for Sort {
+    fn fmt<W: fmt::Write>(&self, f: &mut fmt::Formatter<W>) -> fmt::Result {
+        match *self {
+            Sort::Merging => write!(f, "merging"),
+            Sort::Digits => write!(f, "digits"),
+        }
+    }
+}
+
+// Values as a line has them: a space and the pattern of each.
+#[derive(Clone, Copy)]
+struct Patterns<'a>(&'a [f32]);
+
+impl fmt::Display for Patterns<'_> {
+    fn fmt<W: fmt::Write>(&self, f: &mut fmt::Formatter<W>) -> fmt::Result {
+        for x in self.0 {
+            write!(f, " {:08x}", floats::to_bits(*x))?;
+        }
+        Ok(())
+    }
+}
+
+// How many vectors were seen, and how many of them differ. A line that cannot be written is left out, and changes no count.
 #[derive(Clone, Copy)]
 struct Tally {
+    rt: HostRuntime,
     seen: u64,
     different: u64,
     sort: Sort,
 }
 
-fn write(text: &[u8]) {
-    io::write_all(STDOUT_FILENO, text);
-}
-
-fn write_pattern(x: f32) {
-    write(b" ");
-    io::print_hex(STDOUT_FILENO, floats::to_bits(x) as u64, 8);
-}
-
-fn write_patterns(values: &[f32]) {
-    for x in values {
-        write_pattern(*x);
-    }
-}
-
-// The rest of a vector's line, and the tally with it.
-fn finish(t: Tally, equal: bool) -> Tally {
-    let seen = t.seen.wrapping_add(1);
-    if equal {
-        write(b" equal\n");
-        return Tally { seen, ..t };
-    }
-    write(b" DIFFERS\n");
-    Tally {
-        seen,
-        different: t.different.wrapping_add(1),
-        ..t
-    }
-}
-
 fn all_finite(values: &[f32]) -> bool
     ensures { result ≡ all finite values.now }
 {
-    for x in values {
-        if !floats::is_finite(*x) {
-            return false;
-        }
-    }
-    true
+    values.iter().all(|x| floats::is_finite(*x))
 }
 
 // Sorts what may be sorted, and says whether it did.
@@ -82,65 +70,87 @@ fn sorted(sort: Sort, values: &mut [f32], spare: &mut [f32]) -> bool {
 
 // Two zeros of different signs are level, but no same patterns.
 fn same_patterns(found: &[f32], expected: &[f32]) -> bool {
-    if found.len() != expected.len() {
-        return false;
+    let found = found.iter().map(|x| floats::to_bits(*x));
+    found.eq(expected.iter().map(|x| floats::to_bits(*x)))
+}
+
+impl Tally {
+    // A vector's line, with the values that it shows of what was found and of what was expected.
+    fn vector(&mut self, name: &str, found: &[f32], expected: &[f32], equal: bool) {
+        let verdict = if equal { "equal" } else { "DIFFERS" };
+        let _ = println!(self.rt;
+            "{name}:{} expected{} {verdict}",
+            Patterns(found),
+            Patterns(expected)
+        );
+        self.seen = self.seen.wrapping_add(1);
+        self.different = self.different.wrapping_add(u64::from(!equal));
     }
-    for (x, y) in found.iter().zip(expected) {
-        if floats::to_bits(*x) != floats::to_bits(*y) {
-            return false;
-        }
+
+    // One short list, sorted and held against its rising order.
+    fn short(&mut self, name: &str, values: &mut [f32], expected: &[f32]) {
+        let mut spare = [0.0f32; 8];
+        let done = sorted(self.sort, values, &mut spare);
+        let equal = done && same_patterns(values, expected);
+        self.vector(name, values, expected, equal);
     }
-    true
+
+    // One long list, sorted and held against the same values in the order that is expected. The line
+    // has the first and the last of each.
+    fn long(&mut self, name: &str, kind: Kind, run: Run, order: Run) {
+        let mut values = room();
+        let mut spare = room();
+        fill(run, kind, &mut values);
+        let done = sorted(self.sort, &mut values, &mut spare);
+        fill(order, kind, &mut spare);
+        let equal = same_patterns(&values, &spare);
+        self.vector(
+            name,
+            &[values[0], values[65534]],
+            &[spare[0], spare[65534]],
+            done && values.is_sorted() && equal,
+        );
+    }
+
+    fn sum_up(self) {
+        let Tally {
+            rt,
+            seen,
+            different,
+            ..
+        } = self;
+        let _ = if different == 0 {
+            println!(rt; "all {seen} vectors equal")
+        } else {
+            println!(rt; "{different} vectors differ")
+        };
+    }
 }
 
-// One short list, sorted and held against its rising order.
-fn short(t: Tally, name: &[u8], values: &mut [f32], expected: &[f32]) -> Tally {
-    let mut spare = [0.0f32; 8];
-    let done = sorted(t.sort, values, &mut spare);
-    write(name);
-    write(b":");
-    write_patterns(values);
-    write(b" expected");
-    write_patterns(expected);
-    finish(t, done && same_patterns(values, expected))
+fn few(t: &mut Tally) {
+    t.short("none", &mut [1.0f32; 0], &[1.0f32; 0]);
+    t.short("one", &mut [-2.5f32], &[-2.5f32]);
+    t.short("two", &mut [3.0f32, -3.0], &[-3.0f32, 3.0]);
 }
 
-fn few(mut t: Tally) -> Tally {
-    let mut none = [1.0f32; 0];
-    t = short(t, b"none", &mut none, &[1.0f32; 0]);
-    let mut one = [-2.5f32];
-    t = short(t, b"one", &mut one, &[-2.5f32]);
-    let mut two = [3.0f32, -3.0];
-    t = short(t, b"two", &mut two, &[-3.0f32, 3.0]);
-    t
-}
-
-fn zeros(mut t: Tally) -> Tally {
-    let mut negative_first = [-0.0f32, 0.0];
-    t = short(t, b"-0 and 0 stay", &mut negative_first, &[-0.0f32, 0.0]);
-    let mut positive_first = [0.0f32, -0.0];
-    t = short(t, b"0 and -0 stay", &mut positive_first, &[0.0f32, -0.0]);
+fn zeros(t: &mut Tally) {
+    t.short("-0 and 0 stay", &mut [-0.0f32, 0.0], &[-0.0f32, 0.0]);
+    t.short("0 and -0 stay", &mut [0.0f32, -0.0], &[0.0f32, -0.0]);
     let mut mixed = [1.0f32, 0.0, -1.0, -0.0, 0.0, -0.0, -1.0, 0.0];
     let expected = [-1.0f32, -1.0, 0.0, -0.0, 0.0, -0.0, 0.0, 1.0];
-    t = short(t, b"zeros among others", &mut mixed, &expected);
-    t
+    t.short("zeros among others", &mut mixed, &expected);
 }
 
-fn equals_and_ends(mut t: Tally) -> Tally {
+fn equals_and_ends(t: &mut Tally) {
     let mut equal = [2.0f32, 1.0, 2.0, 1.0, 2.0, 1.0, 2.0];
-    t = short(
-        t,
-        b"equal values",
-        &mut equal,
-        &[1.0f32, 1.0, 1.0, 2.0, 2.0, 2.0, 2.0],
-    );
+    let expected = [1.0f32, 1.0, 1.0, 2.0, 2.0, 2.0, 2.0];
+    t.short("equal values", &mut equal, &expected);
     let mut reversed = [8.0f32, 7.0, 6.0, 5.0, 4.0, 3.0, 2.0, 1.0];
     let expected = [1.0f32, 2.0, 3.0, 4.0, 5.0, 6.0, 7.0, 8.0];
-    t = short(t, b"reversed", &mut reversed, &expected);
+    t.short("reversed", &mut reversed, &expected);
     let mut ends = [3.4028235e38f32, 1.0e-45, -0.0, -1.0e-45, -3.4028235e38];
     let in_order = [-3.4028235e38f32, -1.0e-45, -0.0, 1.0e-45, 3.4028235e38];
-    t = short(t, b"largest and smallest", &mut ends, &in_order);
-    t
+    t.short("largest and smallest", &mut ends, &in_order);
 }
 
 // A way through the numbers 1 to 65535, in which each comes once.
@@ -163,48 +173,28 @@ enum Kind {
 }
 
 // The next number of a run. It starts after 0, and would come back to 0 after 65,535 steps.
-fn next(run: Run, x: u32) -> u32
-    requires { x < 65536 }
-    ensures { result < 65536 }
-{
+fn next(run: Run, x: u16) -> u16 {
     match run {
-        Run::Scattered => (x * 25173 + 13849) % 65536,
-        Run::Falling => (x + 65535) % 65536,
-        Run::Rising => (x + 1) % 65536,
+        Run::Scattered => x.wrapping_mul(25173).wrapping_add(13849),
+        Run::Falling => x.wrapping_sub(1),
+        Run::Rising => x.wrapping_add(1),
     }
 }
 
-fn number(x: u32) -> f32
-    requires { x < 65536 }
-{
-    x as u16 as f32
-}
-
-fn value(kind: Kind, x: u32) -> f32
-    requires { x < 65536 }
-{
+fn value(kind: Kind, x: u16) -> f32 {
     match kind {
-        Kind::Number => number(x),
-        Kind::Quarter => number(x / 16384),
+        Kind::Number => f32::from(x),
+        Kind::Quarter => f32::from(x / 16384),
         Kind::Zero => { if x < 32768 { 0.0 } else { -0.0 } }
     }
 }
 
 fn fill(run: Run, kind: Kind, values: &mut [f32]) {
-    let mut x: u32 = 0;
-    for v in values.iter_mut() {
+    let mut x = 0;
+    for v in values {
         x = next(run, x);
         *v = value(kind, x);
     }
-}
-
-fn in_rising_order(values: &[f32]) -> bool {
-    for i in 1..values.len() {
-        if values[i] < values[i - 1] {
-            return false;
-        }
-    }
-    true
 }
 
 fn room() -> [f32; 65535]
@@ -213,96 +203,59 @@ fn room() -> [f32; 65535]
     [0.0f32; 65535]
 }
 
-fn write_ends(values: &[f32]) {
-    let n = values.len();
-    if 0 < n {
-        write_pattern(values[0]);
-        write_pattern(values[n - 1]);
+// Zeros are level, so theirs stays as it is.
+fn long_lists(t: &mut Tally) {
+    let lists = [
+        (
+            "65535 numbers, scattered",
+            Kind::Number,
+            Run::Scattered,
+            Run::Rising,
+        ),
+        (
+            "65535 numbers, falling",
+            Kind::Number,
+            Run::Falling,
+            Run::Rising,
+        ),
+        (
+            "65535 numbers, rising",
+            Kind::Number,
+            Run::Rising,
+            Run::Rising,
+        ),
+        (
+            "65535 quarters, scattered",
+            Kind::Quarter,
+            Run::Scattered,
+            Run::Rising,
+        ),
+        (
+            "65535 zeros, scattered",
+            Kind::Zero,
+            Run::Scattered,
+            Run::Scattered,
+        ),
+    ];
+    for (name, kind, run, order) in lists {
+        t.long(name, kind, run, order);
     }
 }
 
-// One long list, sorted and held against the same values in the order that is expected. The line
-// has the first and the last of each.
-fn long(t: Tally, name: &[u8], kind: Kind, run: Run, order: Run) -> Tally {
-    let mut values = room();
-    let mut spare = room();
-    fill(run, kind, &mut values);
-    let done = sorted(t.sort, &mut values, &mut spare);
-    fill(order, kind, &mut spare);
-    write(name);
-    write(b":");
-    write_ends(&values);
-    write(b" expected");
-    write_ends(&spare);
-    let equal = same_patterns(&values, &spare);
-    finish(t, done && in_rising_order(&values) && equal)
-}
-
-// Zeros are level, so theirs stays as it is.
-fn long_lists(mut t: Tally) -> Tally {
-    t = long(
-        t,
-        b"65535 numbers, scattered",
-        Kind::Number,
-        Run::Scattered,
-        Run::Rising,
-    );
-    t = long(
-        t,
-        b"65535 numbers, falling",
-        Kind::Number,
-        Run::Falling,
-        Run::Rising,
-    );
-    t = long(
-        t,
-        b"65535 numbers, rising",
-        Kind::Number,
-        Run::Rising,
-        Run::Rising,
-    );
-    t = long(
-        t,
-        b"65535 quarters, scattered",
-        Kind::Quarter,
-        Run::Scattered,
-        Run::Rising,
-    );
-    t = long(
-        t,
-        b"65535 zeros, scattered",
-        Kind::Zero,
-        Run::Scattered,
-        Run::Scattered,
-    );
-    t
-}
-
-fn all_lists(mut t: Tally) -> Tally {
-    t = few(t);
-    t = zeros(t);
-    t = equals_and_ends(t);
-    t = long_lists(t);
-    t
-}
-
-fn main() {
+fn main(rt: HostRuntime) {
     let mut t = Tally {
+        rt,
         seen: 0,
         different: 0,
         sort: Sort::Merging,
     };
-    write(b"by merging\n");
-    t = all_lists(t);
-    t.sort = Sort::Digits;
-    write(b"by digits\n");
-    t = all_lists(t);
-    if t.different == 0 {
-        write(b"all ");
-        io::print_decimal(STDOUT_FILENO, t.seen);
-        write(b" vectors equal\n");
-    } else {
-        io::print_decimal(STDOUT_FILENO, t.different);
-        write(b" vectors differ\n");
+    for sort in [Sort::Merging, Sort::Digits] {
+        t.sort = sort;
+        let _ = println!(rt; "by {sort}");
+        few(&mut t);
+        zeros(&mut t);
+        equals_and_ends(&mut t);
+        long_lists(&mut t);
     }
+    t.sum_up();
 }

@@ -2,7 +2,7 @@
 // long the lent areas must be, and where the parts of a channel's sections lie.
 #![tactic(auto)]
 
-ghost use Rattle.std.specs.Prelude.{◌≡◌, true};
+ghost use Rattle.std.specs.Prelude.{◌≡◌, true, false, MatchOption};
 ghost use Rattle.model.specs.Sizes.{sizes_allowed, most_waiting, float_section, word_section, float_area, word_area};
 ghost use Rattle.calls.specs.Views.{sizes_of};
 ghost use Rattle.sizes.specs.View.{offsets_of};
@@ -33,59 +33,79 @@ pub fn allowed(z: Sizes) -> bool
         && (1..=4096).contains(&z.height)
 }
 
-// The most packets that wait: max / packet, rounded up.
-pub fn most_waiting(z: Sizes) -> usize
-    requires { sizes_allowed (sizes_of z) ≡ true }
-    ensures { result ≡ most_waiting (sizes_of z) }
-{
-    let packet = z.packet;
-    (z.max + packet - 1) / packet
+// Sizes that a receiver may have: question 1 is answered with yes, by `of`, or what a caller promises says so, and then
+// nothing is asked: `AllowedSizes { sizes }`.
+#[derive(Clone, Copy)]
+pub struct AllowedSizes {
+    pub sizes: Sizes,
+    pub ghost allowed: { sizes_allowed (sizes_of sizes) ≡ true },
 }
 
-// The places of the f32 section of one channel.
-pub fn float_section(z: Sizes) -> usize
-    requires { sizes_allowed (sizes_of z) ≡ true }
-    ensures { result ≡ float_section (sizes_of z) }
-{
-    most_waiting(z) * z.packet + (z.target + z.packet) + 3 * z.bins
-}
+impl AllowedSizes {
+    // These sizes, if question 1 is answered with yes.
+    pub fn of(z: Sizes) -> Option<AllowedSizes>
+        ensures { MatchOption result (sizes_allowed (sizes_of z) ≡ false) (λ a. (a.sizes ≡ z) × (sizes_allowed (sizes_of z) ≡ true)) }
+    {
+        if allowed(z) {
+            Some(AllowedSizes { sizes: z })
+        } else {
+            None
+        }
+    }
 
-// The places of the u32 section of one channel.
-pub fn word_section(z: Sizes) -> usize
-    requires { sizes_allowed (sizes_of z) ≡ true }
-    ensures { result ≡ word_section (sizes_of z) }
-{
-    most_waiting(z) + z.width * z.height
-}
+    // The most packets that wait: max / packet, rounded up.
+    pub fn most_waiting(self) -> usize
+        ensures { result ≡ most_waiting (sizes_of self.sizes) }
+    {
+        let z = self.sizes;
+        let packet = z.packet;
+        (z.max + packet - 1) / packet
+    }
 
-// The f32 area: both channels' sections, and a work section of bins.
-pub fn float_area(z: Sizes) -> usize
-    requires { sizes_allowed (sizes_of z) ≡ true }
-    ensures { result ≡ float_area (sizes_of z) }
-{
-    2 * float_section(z) + z.bins
-}
+    // The places of the f32 section of one channel.
+    pub fn float_section(self) -> usize
+        ensures { result ≡ float_section (sizes_of self.sizes) }
+    {
+        let z = self.sizes;
+        self.most_waiting() * z.packet + (z.target + z.packet) + 3 * z.bins
+    }
 
-// The u32 area: both channels' sections.
-pub fn word_area(z: Sizes) -> usize
-    requires { sizes_allowed (sizes_of z) ≡ true }
-    ensures { result ≡ word_area (sizes_of z) }
-{
-    2 * word_section(z)
-}
+    // The places of the u32 section of one channel.
+    pub fn word_section(self) -> usize
+        ensures { result ≡ word_section (sizes_of self.sizes) }
+    {
+        let z = self.sizes;
+        self.most_waiting() + z.width * z.height
+    }
 
-pub fn section_offsets(z: Sizes) -> Offsets
-    requires { sizes_allowed (sizes_of z) ≡ true }
-    ensures { result ≡ offsets_of (sizes_of z) }
-{
-    let most = most_waiting(z);
-    let queue = most * z.packet;
-    let row = queue + (z.target + z.packet);
-    Offsets {
-        queue,
-        row,
-        spectrum: row + z.bins,
-        smoothing: row + 2 * z.bins,
-        picture: most,
+    // The f32 area: both channels' sections, and a work section of bins.
+    pub fn float_area(self) -> usize
+        ensures { result ≡ float_area (sizes_of self.sizes) }
+    {
+        let z = self.sizes;
+        2 * self.float_section() + z.bins
+    }
+
+    // The u32 area: both channels' sections.
+    pub fn word_area(self) -> usize
+        ensures { result ≡ word_area (sizes_of self.sizes) }
+    {
+        2 * self.word_section()
+    }
+
+    pub fn section_offsets(self) -> Offsets
+        ensures { result ≡ offsets_of (sizes_of self.sizes) }
+    {
+        let z = self.sizes;
+        let most = self.most_waiting();
+        let queue = most * z.packet;
+        let row = queue + (z.target + z.packet);
+        Offsets {
+            queue,
+            row,
+            spectrum: row + z.bins,
+            smoothing: row + 2 * z.bins,
+            picture: most,
+        }
     }
 }

@@ -5,7 +5,7 @@ use mathlib.Core.List.{List, [], ◌∷◌, ◌++◌, map}
 use native.Mathlib.Omega.{arith}
 use lib.ListN.{length, set}
 use borrow.Author.Tests.{le-leb}
-use Rattle.std.proofs.Common.{Option, Some}
+use Rattle.std.proofs.Common.{Option, Some, Ok, Err}
 use Rattle.model.specs.Framing.{Side}
 use Rattle.model.specs.Replay.{decimal, line, side_letter}
 use Rattle.model.specs.Summary.{play_summary, row_summary, answer_summary}
@@ -17,7 +17,7 @@ use Rattle.text.proofs.WrittenLaws.{none_placed}
 use Rattle.lines.specs.Lines.{head, Piece}
 use Rattle.lines.proofs.WordLaws.{rest_is_spaced}
 use Rattle.lines.proofs.Pieces.{byte_fitted, refused_line_is}
-use Rattle.receiver_state.specs.declared.Answer.TheVariants.{Refused, Accepted, Played, NoRow, Row}
+use Rattle.receiver_state.specs.declared.Answer.TheVariants.{Accepted, Played, NoRow, Row}
 use Rattle.playback_parts.specs.Parts.{TextPut}
 use Rattle.playback_parts.proofs.Texts.{piece_put}
 use Rattle.summary_lines.specs.Summaries.{SummaryPut}
@@ -58,16 +58,16 @@ module _ (letter : ℕ) (side : Side) (numbers : List ℕ) where
 
 module _ (side : Side) {entry exit : List ℕ} {bytes : ℕ} where
   pub refused_put : (why : Refusal) (count : ℕ) → TextPut (line 88 (map decimal (refusal_number why ∷ []))) entry exit bytes
-      → SummaryPut side (Refused why) count entry exit bytes
+      → SummaryPut side (Err why) count entry exit bytes
   unfolding answer_summary
   refused_put why count put = record { text = line 88 (map decimal (refusal_number why ∷ [])); put = put; line = λ values has. refused_line_is (refusal_number why) }
 
   pub play_put : (taken dropped short count : ℕ) → TextPut (line 80 (words 80 side (taken ∷ dropped ∷ short ∷ []))) entry exit bytes
-      → SummaryPut side (Played taken dropped short) count entry exit bytes
+      → SummaryPut side (Ok (Played taken dropped short)) count entry exit bytes
   unfolding answer_summary play_summary
   play_put taken dropped short count put = record { text = line 80 (words 80 side (taken ∷ dropped ∷ short ∷ [])); put = put; line = λ values has. refl }
 
-  pub row_put : (n count : ℕ) → TextPut (line 87 (words 87 side (count ∷ []))) entry exit bytes → SummaryPut side (Row n) count entry exit bytes
+  pub row_put : (n count : ℕ) → TextPut (line 87 (words 87 side (count ∷ []))) entry exit bytes → SummaryPut side (Ok (Row n)) count entry exit bytes
   unfolding answer_summary row_summary
   row_put n count put = record { text = line 87 (words 87 side (count ∷ [])); put = put; line = λ values has. rw has }
 
@@ -75,10 +75,10 @@ module _ (side : Side) {entry exit : List ℕ} {bytes : ℕ} where
 none_put : (entry : List ℕ) → TextPut [] entry entry 0
 none_put entry = record { length_is = refl; target = sym (none_placed 0 entry) }
 
-pub accepted_put : (side : Side) (count : ℕ) (entry : List ℕ) → SummaryPut side Accepted count entry entry 0
+pub accepted_put : (side : Side) (count : ℕ) (entry : List ℕ) → SummaryPut side (Ok Accepted) count entry entry 0
 unfolding answer_summary
 accepted_put side count entry = record { text = []; put = none_put entry; line = λ values has. refl }
 
-pub no_row_put : (side : Side) (count : ℕ) (entry : List ℕ) → SummaryPut side NoRow count entry entry 0
+pub no_row_put : (side : Side) (count : ℕ) (entry : List ℕ) → SummaryPut side (Ok NoRow) count entry entry 0
 unfolding answer_summary
 no_row_put side count entry = record { text = []; put = none_put entry; line = λ values has. refl }

@@ -1,22 +1,23 @@
 -- What a line of a summary is, by the receiver's own answer. Assumes nothing.
-use Rattle.std.specs.Prelude.{ℕ, ◌≡◌, List, length, take, Float}
+use Rattle.std.specs.Prelude.{ℕ, ◌≡◌, List, length, take, Float, Result, Ok, Err}
 use Rattle.model.specs.Framing.{Side}
 use Rattle.model.specs.Summary.{answer_summary}
+use Rattle.calls.specs.declared.Refusal.{Refusal}
 use Rattle.receiver_state.specs.declared.Answer.{Answer}
-use Rattle.receiver_state.specs.declared.Answer.TheVariants.{Refused, Accepted, Played, NoRow, Row}
+use Rattle.receiver_state.specs.declared.Answer.TheVariants.{Accepted, Played, NoRow, Row}
 use Rattle.receiver_state.specs.View.{answer_of}
 use Rattle.playback_parts.specs.Parts.{TextPut}
 
 -- so many of these values are a row's
-abbrev pub RowHas : Answer → List Float → ℕ → Type 0
-RowHas (Refused why) values count = Unit {0}
-RowHas Accepted values count = Unit {0}
-RowHas (Played taken dropped short) values count = Unit {0}
-RowHas NoRow values count = Unit {0}
-RowHas (Row n) values count = count ≡ length (take n values)
+abbrev pub RowHas : Result Answer Refusal → List Float → ℕ → Type 0
+RowHas (Err why) values count = Unit {0}
+RowHas (Ok Accepted) values count = Unit {0}
+RowHas (Ok (Played taken dropped short)) values count = Unit {0}
+RowHas (Ok NoRow) values count = Unit {0}
+RowHas (Ok (Row n)) values count = count ≡ length (take n values)
 
 -- the model's line stands at the front, whatever an answer's values are, but for the length of a row
-pub record SummaryPut (side : Side) (a : Answer) (count : ℕ) (entry exit : List ℕ) (bytes : ℕ) : Type 0 where
+pub record SummaryPut (side : Side) (a : Result Answer Refusal) (count : ℕ) (entry exit : List ℕ) (bytes : ℕ) : Type 0 where
   pub text : List ℕ
   pub put : TextPut text entry exit bytes
   pub line : (values : List Float) → RowHas a values count → answer_summary side (answer_of a values) ≡ text

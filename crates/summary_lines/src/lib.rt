@@ -7,7 +7,7 @@ ghost use Rattle.calls.specs.Views.{model_side};
 ghost use Rattle.playback_parts.specs.Parts.{TextPut};
 ghost use Rattle.summary_lines.specs.Summaries.{SummaryPut};
 
-use calls::Side;
+use calls::{Refusal, Side};
 use receiver_state::Answer;
 
 // A letter, a channel and numbers, to the line's end.
@@ -21,23 +21,30 @@ fn put_numbered(text: &mut [u8], letter: u8, side: Side, numbers: &[u64]) -> usi
 }
 
 // The summary's line of an answer. Where the answer is a row, `values` is how many it has.
-pub fn put_summary(text: &mut [u8], side: Side, answer: Answer, values: usize) -> usize
+pub fn put_summary(
+    text: &mut [u8],
+    side: Side,
+    answer: Result<Answer, Refusal>,
+    values: usize,
+) -> usize
     requires { 170 ≤ length text.old }
     ensures { SummaryPut (model_side side) answer values text.old text.new result }
 {
     match answer {
-        Answer::Refused(why) => lines::put_line(text, b'X', &[why.number() as u64]).unwrap(),
-        Answer::Accepted | Answer::NoRow => 0,
-        Answer::Played {
-            taken,
-            dropped,
-            short,
-        } => put_numbered(
+        Err(why) => lines::put_line(text, b'X', &[why.number() as u64]).unwrap(),
+        Ok(Answer::Accepted | Answer::NoRow) => 0,
+        Ok(
+            Answer::Played {
+                taken,
+                dropped,
+                short,
+            },
+        ) => put_numbered(
             text,
             b'P',
             side,
             &[taken as u64, dropped as u64, short as u64],
         ),
-        Answer::Row(_) => put_numbered(text, b'W', side, &[values as u64]),
+        Ok(Answer::Row(_)) => put_numbered(text, b'W', side, &[values as u64]),
     }
 }

@@ -1,5 +1,5 @@
 -- The tape's answers as numbers, for programs in other languages. Assumes nothing.
-use Rattle.std.specs.Prelude.{ℕ, ◌-◌, Bool, true, false, cond, List, [], ◌∷◌, ◌++◌, length, take, drop, eqb, Some, None, Result, Ok, Err}
+use Rattle.std.specs.Prelude.{ℕ, ◌-◌, Bool, true, false, List, [], ◌∷◌, ◌++◌, length, take, drop, Some, None, Result, Ok, Err}
 use Rattle.calls.specs.declared.Side.{Side}
 use Rattle.calls.specs.declared.Side.TheVariants.{A, B}
 use Rattle.tape.specs.declared.Setup.{Setup}
@@ -22,10 +22,6 @@ handed numbers out = take (length out) numbers ++ drop (length numbers) out
 abbrev pub side_number : Side → ℕ
 side_number A = 0
 side_number B = 1
-
--- 0 is channel A and any other number B
-abbrev pub side_named : ℕ → Side
-side_named n = cond (eqb n 0) A B
 
 abbrev pub flag_number : Bool → ℕ
 flag_number true = 1
@@ -75,7 +71,7 @@ call_numbers (call.Play side samples) next = 2 ∷ next ∷ side_number side ∷
 call_numbers (call.Reset side) next = 3 ∷ next ∷ side_number side ∷ 0 ∷ []
 call_numbers (call.Set side x) next =
     4 ∷ next ∷ side_number side ∷ flag_number x.adaptive ∷ x.top ∷ x.range ∷ x.zoom ∷ x.smoothing ∷ []
-call_numbers (call.Probe t1 t2 t3 t4) next = 5 ∷ next ∷ t1 ∷ t2 ∷ t3 ∷ t4 ∷ []
+call_numbers (call.Probe t) next = 5 ∷ next ∷ t.t1 ∷ t.t2 ∷ t.t3 ∷ t.t4 ∷ []
 call_numbers (call.OneWay receive send) next = 6 ∷ next ∷ receive ∷ send ∷ []
 call_numbers (call.Depth samples k) next =
     7 ∷ next ∷ samples ∷ k.conceals ∷ k.late ∷ k.overflow ∷ k.resyncs ∷ []

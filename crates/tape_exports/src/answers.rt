@@ -66,7 +66,7 @@ fn put_call(out: &mut [u64], placed: Placed)
         }
         Call::Reset { side } => put(out, 0, &[3, next as u64, side_number(side), 0]),
         Call::Set { side, settings } => put_set(out, side, settings, next),
-        Call::Probe { t1, t2, t3, t4 } => put(out, 0, &[5, next as u64, t1, t2, t3, t4]),
+        Call::Probe(t) => put(out, 0, &[5, next as u64, t.t1, t.t2, t.t3, t.t4]),
         Call::OneWay { receive, send } => put(out, 0, &[6, next as u64, receive, send]),
         Call::Depth { samples, counts } => put_depth(out, samples, counts, next),
         Call::TransmitDepth { samples } => put(out, 0, &[8, next as u64, samples as u64, 0]),

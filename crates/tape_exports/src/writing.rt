@@ -1,20 +1,15 @@
-// Writing at a place of a target. Where the answer is a refusal, the target is as it was.
+// Writing at a place of a target. Where the answer is a refusal, the target is as it was. Callers in other languages hand over
+// plain numbers, one by one.
 ghost use Rattle.std.specs.Prelude.{◌≡◌};
 ghost use Rattle.model.specs.Receiver.{datagram, play, reset, set, probe, one_way, depth, transmit_depth};
 ghost use Rattle.model.specs.Tape.{put_setup, put_call, put_end};
 ghost use Rattle.calls.specs.Views.{model_side, model_settings, model_counts, model_setup};
-ghost use Rattle.tape_exports.specs.Numbers.{side_named, put_number};
+ghost use Rattle.calls.specs.Sides.{side_named};
+ghost use Rattle.tape_exports.specs.Numbers.{put_number};
 ghost use Rattle.tape_exports.specs.Promises.{PutHanded};
 
-use calls::{DepthCounts, Estimates, Settings, Side, Sizes};
+use calls::{DepthCounts, Estimates, ProbeTimes, Settings, Side, Sizes};
 use tape_writer::PutError;
-
-// 0 is channel A and any other number B.
-fn side_of(n: u64) -> Side
-    ensures { result ≡ side_named n }
-{
-    if n == 0 { Side::A } else { Side::B }
-}
 
 // The place after, or the largest number less the refusal's number: 11 or 2.
 fn answer(p: Result<usize, PutError>) -> u64
@@ -38,14 +33,14 @@ pub extern "C" fn tape_put_datagram(target: &mut [u8], place: usize, bytes: &[u8
 pub extern "C" fn tape_put_play(target: &mut [u8], place: usize, side: u64, samples: usize) -> u64
     ensures { PutHanded (put_call place (play (model_side (side_named side)) samples) target.old) target.old target.new result }
 {
-    answer(tape_writer::put_play(target, place, side_of(side), samples))
+    answer(tape_writer::put_play(target, place, Side::from_number(side), samples))
 }
 
 #[unsafe(no_mangle)]
 pub extern "C" fn tape_put_reset(target: &mut [u8], place: usize, side: u64) -> u64
     ensures { PutHanded (put_call place (reset (model_side (side_named side))) target.old) target.old target.new result }
 {
-    answer(tape_writer::put_reset(target, place, side_of(side)))
+    answer(tape_writer::put_reset(target, place, Side::from_number(side)))
 }
 
 #[unsafe(no_mangle)]
@@ -68,7 +63,7 @@ pub extern "C" fn tape_put_set(
         zoom,
         smoothing,
     };
-    answer(tape_writer::put_set(target, place, side_of(side), x))
+    answer(tape_writer::put_set(target, place, Side::from_number(side), x))
 }
 
 #[unsafe(no_mangle)]
@@ -82,7 +77,7 @@ pub extern "C" fn tape_put_probe(
 ) -> u64
     ensures { PutHanded (put_call place (probe t1 t2 t3 t4) target.old) target.old target.new result }
 {
-    answer(tape_writer::put_probe(target, place, t1, t2, t3, t4))
+    answer(tape_writer::put_probe(target, place, ProbeTimes { t1, t2, t3, t4 }))
 }
 
 #[unsafe(no_mangle)]

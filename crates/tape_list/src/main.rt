@@ -4,38 +4,55 @@
 #![tactic(auto)]
 
 mod listing;
-mod words;
 
+use input::ReadFailed;
 use std::io::Stdin;
+use std::{fmt, io};
 
-// A file descriptor.
-const STDERR_FILENO: i32 = 2;
-
-fn say(sentence: &[u8]) {
-    io::write_all(STDERR_FILENO, sentence);
+// Why the tape is not listed, or not to its end.
+#[derive(Clone, Copy)]
+enum Failure {
+    Unread,
+    TooLong,
+    Unwritten,
 }
 
-fn list(tape: &[u8]) {
-    if 524288 < tape.len() {
-        say(b"tape_list: the tape is longer than 524288 bytes\n");
-        return;
-    }
-    let mut line = io::buffer();
-    if !listing::list(tape, &mut line) {
-        say(b"tape_list: standard output could not be written\n");
+impl fmt::Display for Failure {
+    fn fmt<W: fmt::Write>(&self, f: &mut fmt::Formatter<W>) -> fmt::Result {
+        f.write_str(match self {
+            Failure::Unread => "standard input could not be read",
+            Failure::TooLong => "the tape is longer than 524288 bytes",
+            Failure::Unwritten => "standard output could not be written",
+        })
     }
 }
 
-fn run(mut stdin: Stdin, tape: &mut [u8]) {
-    let Ok(n) = input::read_all(&mut stdin, tape) else {
-        say(b"tape_list: standard input could not be read\n");
-        return;
-    };
-    list(&tape[..n]);
+impl From<ReadFailed> for Failure {
+    fn from(_: ReadFailed) -> Failure {
+        Failure::Unread
+    }
+}
+
+impl From<io::Error> for Failure {
+    fn from(_: io::Error) -> Failure {
+        Failure::Unwritten
+    }
 }
 
 // Of a longer tape one byte more than the limit is read.
+fn run(rt: &impl Print, mut stdin: Stdin, tape: &mut [u8]) -> Result<(), Failure> {
+    let n = input::read_all(&mut stdin, tape)?;
+    if 524288 < n {
+        return Err(Failure::TooLong);
+    }
+    listing::list(rt, &tape[..n])?;
+    Ok(())
+}
+
 fn main(rt: HostRuntime) {
     let mut tape = [0u8; 524289];
-    run(rt.stdin(), &mut tape);
+    if let Err(why) = run(&rt, rt.stdin(), &mut tape) {
+        // A sentence that cannot be written is left out.
+        let _ = eprintln!(rt; "tape_list: {why}");
+    }
 }

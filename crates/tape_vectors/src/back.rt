@@ -1,218 +1,126 @@
 // What was written, read back field by field.
-use crate::report::{Tally, counted, numbers, text};
-use crate::sample::{depth_counts, estimates, every_call, settings, small, small_sizes};
+use crate::report::Bench;
+use crate::sample::{TIMES, depth_counts, estimates, every_call, settings, small, small_sizes};
 use calls::Side;
 use tape::{BadWord, Call, Found, Placed, Setup, reader};
 use tape_writer::PutError;
 
 fn byte(t: &[u8], at: usize) -> u8 {
-    if at < t.len() {
-        return t[at];
-    }
-    0
+    t.get(at).copied().unwrap_or(0)
+}
+
+// The call that is expected stands there, and the next place after it.
+fn is_call(f: Found, call: Call, next: usize) -> bool {
+    f == Ok(Some(Placed { call, next }))
 }
 
 fn is_datagram(t: &[u8], f: Found) -> bool {
-    match f {
-        Ok(
-            Some(
-                Placed {
-                    call: Call::Datagram { at, len },
-                    next,
-                },
-            ),
-        ) => at == 56 && len == 5 && next == 16 && byte(t, 56) == 1 && byte(t, 60) == 5,
-        _ => false,
-    }
+    is_call(f, Call::Datagram { at: 56, len: 5 }, 16) && byte(t, 56) == 1 && byte(t, 60) == 5
 }
 
-fn is_play(f: Found, expected: Side, n: u32, after: usize) -> bool {
-    match f {
-        Ok(
-            Some(
-                Placed {
-                    call: Call::Play { side, samples },
-                    next,
-                },
-            ),
-        ) => side == expected && samples == n && next == after,
-        _ => false,
-    }
+fn is_play(f: Found, side: Side, samples: u32, after: usize) -> bool {
+    is_call(f, Call::Play { side, samples }, after)
 }
 
-fn is_reset(f: Found, expected: Side, after: usize) -> bool {
-    match f {
-        Ok(
-            Some(
-                Placed {
-                    call: Call::Reset { side },
-                    next,
-                },
-            ),
-        ) => side == expected && next == after,
-        _ => false,
-    }
+fn is_reset(f: Found, side: Side, after: usize) -> bool {
+    is_call(f, Call::Reset { side }, after)
 }
 
-fn is_set(f: Found, expected: Side, after: usize) -> bool {
-    match f {
-        Ok(
-            Some(
-                Placed {
-                    call: Call::Set { side, settings: x },
-                    next,
-                },
-            ),
-        ) => side == expected && x == settings(expected == Side::B) && next == after,
-        _ => false,
-    }
+fn is_set(f: Found, side: Side, after: usize) -> bool {
+    let settings = settings(side == Side::B);
+    is_call(f, Call::Set { side, settings }, after)
 }
 
 fn is_probe(f: Found) -> bool {
-    match f {
-        Ok(
-            Some(
-                Placed {
-                    call: Call::Probe { t1, t2, t3, t4 },
-                    next,
-                },
-            ),
-        ) => t1 == 1 && t2 == 4294967298 && t3 == 18446744073709551615 && t4 == 0 && next == 39,
-        _ => false,
-    }
+    is_call(f, Call::Probe(TIMES), 39)
 }
 
 fn is_one_way(f: Found) -> bool {
-    match f {
-        Ok(
-            Some(
-                Placed {
-                    call: Call::OneWay { receive, send },
-                    next,
-                },
-            ),
-        ) => receive == 12884901892 && send == 5 && next == 44,
-        _ => false,
-    }
+    let expected = Call::OneWay {
+        receive: 12884901892,
+        send: 5,
+    };
+    is_call(f, expected, 44)
 }
 
 fn is_depth(f: Found) -> bool {
-    match f {
-        Ok(
-            Some(
-                Placed {
-                    call: Call::Depth { samples, counts },
-                    next,
-                },
-            ),
-        ) => samples == 4294967295 && counts == depth_counts() && next == 54,
-        _ => false,
-    }
+    let expected = Call::Depth {
+        samples: 4294967295,
+        counts: depth_counts(),
+    };
+    is_call(f, expected, 54)
 }
 
 fn is_transmit(f: Found) -> bool {
-    match f {
-        Ok(
-            Some(
-                Placed {
-                    call: Call::TransmitDepth { samples },
-                    next,
-                },
-            ),
-        ) => samples == 7 && next == 56,
-        _ => false,
-    }
+    is_call(f, Call::TransmitDepth { samples: 7 }, 56)
 }
 
 fn is_end(f: Found) -> bool {
-    match f {
-        Ok(None) => true,
-        _ => false,
-    }
+    f == Ok(None)
 }
 
 fn is_bad(f: Found, place: usize) -> bool {
-    match f {
-        Err(bad) => bad == BadWord { place },
-        _ => false,
-    }
+    f == Err(BadWord { place })
 }
 
 fn is_setup(s: Result<Setup, BadWord>) -> bool {
-    match s {
-        Ok(x) => {
-            x.sizes == small_sizes()
-                && x.a == estimates(1, 2, 3)
-                && x.b == estimates(4, 5, 4294967295)
-        }
-        Err(_) => false,
-    }
+    s == Ok(Setup {
+        sizes: small_sizes(),
+        a: estimates(1, 2, 3),
+        b: estimates(4, 5, 4294967295),
+    })
 }
 
-fn said(t: Tally, label: &[u8], equal: bool) -> Tally {
-    text(label);
-    text(b": read back");
-    counted(t, equal)
+fn said(b: &mut Bench, label: &str, equal: bool) {
+    b.counted(format_args!("{label}: read back"), equal);
 }
 
-fn channel_calls(t: &[u8], tally: Tally) -> Tally {
-    let now = said(tally, b"datagram", is_datagram(t, reader::call_at(t, 13)));
-    let now = said(
-        now,
-        b"play A",
-        is_play(reader::call_at(t, 16), Side::A, 2, 17),
-    );
-    let now = said(
-        now,
-        b"play B",
+fn channel_calls(t: &[u8], b: &mut Bench) {
+    said(b, "datagram", is_datagram(t, reader::call_at(t, 13)));
+    said(b, "play A", is_play(reader::call_at(t, 16), Side::A, 2, 17));
+    said(
+        b,
+        "play B",
         is_play(reader::call_at(t, 17), Side::B, 65535, 18),
     );
-    let now = said(
-        now,
-        b"reset A",
-        is_reset(reader::call_at(t, 18), Side::A, 19),
-    );
-    let now = said(
-        now,
-        b"reset B",
-        is_reset(reader::call_at(t, 19), Side::B, 20),
-    );
-    let now = said(now, b"set A", is_set(reader::call_at(t, 20), Side::A, 25));
-    said(now, b"set B", is_set(reader::call_at(t, 25), Side::B, 30))
+    said(b, "reset A", is_reset(reader::call_at(t, 18), Side::A, 19));
+    said(b, "reset B", is_reset(reader::call_at(t, 19), Side::B, 20));
+    said(b, "set A", is_set(reader::call_at(t, 20), Side::A, 25));
+    said(b, "set B", is_set(reader::call_at(t, 25), Side::B, 30));
 }
 
-fn clock_calls(t: &[u8], tally: Tally) -> Tally {
-    let now = said(tally, b"probe", is_probe(reader::call_at(t, 30)));
-    let now = said(now, b"one-way", is_one_way(reader::call_at(t, 39)));
-    let now = said(now, b"depth", is_depth(reader::call_at(t, 44)));
-    let now = said(now, b"transmit depth", is_transmit(reader::call_at(t, 54)));
-    let now = said(now, b"end", is_end(reader::call_at(t, 56)));
-    let now = said(now, b"past the end", is_bad(reader::call_at(t, 57), 57));
+fn clock_calls(t: &[u8], b: &mut Bench) {
+    said(b, "probe", is_probe(reader::call_at(t, 30)));
+    said(b, "one-way", is_one_way(reader::call_at(t, 39)));
+    said(b, "depth", is_depth(reader::call_at(t, 44)));
+    said(b, "transmit depth", is_transmit(reader::call_at(t, 54)));
+    said(b, "end", is_end(reader::call_at(t, 56)));
+    said(b, "past the end", is_bad(reader::call_at(t, 57), 57));
     said(
-        now,
-        b"largest place",
+        b,
+        "largest place",
         is_bad(reader::call_at(t, 18446744073709551615), 57),
-    )
+    );
 }
 
 // Every call of the large tape, by its place.
-fn fields(t: &[u8], tally: Tally) -> Tally {
-    if t.len() < 228 {
-        return tally;
-    }
-    let whole = &t[0..228];
-    let now = said(tally, b"setup", is_setup(reader::setup_of(whole)));
-    let now = channel_calls(whole, now);
-    clock_calls(whole, now)
+fn fields(b: &mut Bench) {
+    let tape = b.tape;
+    let Some(whole) = tape.get(..228) else {
+        return;
+    };
+    said(b, "setup", is_setup(reader::setup_of(whole)));
+    channel_calls(whole, b);
+    clock_calls(whole, b);
 }
 
 // The two tapes as they were written.
-pub fn every_field(t: &mut [u8], tally: Tally) -> Tally {
-    let large = every_call(t);
-    let now = numbers(tally, b"words of the large tape", large as u64, 57);
-    let now = fields(t, now);
-    let less = small(t);
-    numbers(now, b"words of the small tape", less as u64, 21)
+pub fn every_field(b: &mut Bench) {
+    let large = every_call(&mut b.tape);
+    b.numbers("words of the large tape", large as u64, 57);
+    fields(b);
+    let less = small(&mut b.tape);
+    b.numbers("words of the small tape", less as u64, 21);
 }
 
 fn refused_at(p: Result<usize, PutError>) -> u64 {
@@ -224,45 +132,25 @@ fn refused_at(p: Result<usize, PutError>) -> u64 {
 }
 
 // A number that does not fit its field: 11, with the place.
-fn too_large(t: &mut [u8], tally: Tally) -> Tally {
-    let now = numbers(
-        tally,
-        b"play of 65536 samples at 16",
-        refused_at(tape_writer::put_play(t, 16, Side::A, 65536)),
-        16,
-    );
-    numbers(
-        now,
-        b"transmit depth of 4294967296 at 54",
-        refused_at(tape_writer::put_transmit_depth(t, 54, 4294967296)),
-        54,
-    )
+fn too_large(b: &mut Bench) {
+    let play = refused_at(tape_writer::put_play(&mut b.tape, 16, Side::A, 65536));
+    b.numbers("play of 65536 samples at 16", play, 16);
+    let depth = refused_at(tape_writer::put_transmit_depth(&mut b.tape, 54, 4294967296));
+    b.numbers("transmit depth of 4294967296 at 54", depth, 54);
 }
 
 // A target that is too short: 2.
-fn no_room(t: &mut [u8], tally: Tally) -> Tally {
-    let now = numbers(
-        tally,
-        b"end at the largest place",
-        refused_at(tape_writer::put_end(t, 18446744073709551615)),
-        2,
-    );
-    let now = numbers(
-        now,
-        b"end behind the target",
-        refused_at(tape_writer::put_end(t, 64)),
-        2,
-    );
-    numbers(
-        now,
-        b"end in the target's last word",
-        tape_writer::put_end(t, 63).unwrap_or(0) as u64,
-        64,
-    )
+fn no_room(b: &mut Bench) {
+    let far = refused_at(tape_writer::put_end(&mut b.tape, 18446744073709551615));
+    b.numbers("end at the largest place", far, 2);
+    let behind = refused_at(tape_writer::put_end(&mut b.tape, 64));
+    b.numbers("end behind the target", behind, 2);
+    let last = tape_writer::put_end(&mut b.tape, 63).unwrap_or(0) as u64;
+    b.numbers("end in the target's last word", last, 64);
 }
 
 // What the writer refuses.
-pub fn refusals(t: &mut [u8], tally: Tally) -> Tally {
-    let now = too_large(t, tally);
-    no_room(t, now)
+pub fn refusals(b: &mut Bench) {
+    too_large(b);
+    no_room(b);
 }

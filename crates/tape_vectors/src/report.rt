@@ -1,11 +1,14 @@
 // Lines of output, and how many of them were as expected.
+use std::fmt;
+use std::fmt::Display;
 use tape::BadWord;
 
-// A file descriptor.
-const STDOUT_FILENO: i32 = 1;
-
+// The tape that is written, read and damaged, and how many vectors were seen, and how many of them were equal. A line that
+// cannot be written is left out, and changes no count.
 #[derive(Clone, Copy)]
-pub struct Tally {
+pub struct Bench {
+    pub rt: HostRuntime,
+    pub tape: [u8; 256],
     pub seen: u64,
     pub equal: u64,
 }
@@ -18,48 +21,64 @@ pub fn bad(place: usize) -> Verdict {
     Err(BadWord { place })
 }
 
-pub fn text(t: &[u8]) {
-    io::write_all(STDOUT_FILENO, t);
-}
+// A verdict as a line has it: refusal 11 with its place.
+#[derive(Clone, Copy)]
+struct Shown(Verdict);
 
-pub fn number(n: u64) {
-    io::print_decimal(STDOUT_FILENO, n);
-}
-
-fn verdict(v: Verdict) {
-    match v {
-        Ok(()) => text(b"accepted"),
-        Err(bad) => {
-            text(b"11 ");
-            number(bad.place as u64);
+impl Display for Shown {
+    fn fmt<W: fmt::Write>(&self, f: &mut fmt::Formatter<W>) -> fmt::Result {
+        match self.0 {
+            Ok(()) => write!(f, "accepted"),
+            Err(bad) => write!(f, "11 {}", bad.place),
         }
     }
 }
 
-// One vector more.
-pub fn counted(t: Tally, equal: bool) -> Tally {
-    text(if equal { b"\n" } else { b" NOT EQUAL\n" });
-    Tally {
-        seen: t.seen.wrapping_add(1),
-        equal: t.equal.wrapping_add(u64::from(equal)),
+impl Bench {
+    pub fn new(rt: HostRuntime) -> Bench {
+        Bench {
+            rt,
+            tape: [0; 256],
+            seen: 0,
+            equal: 0,
+        }
     }
-}
 
-// What was found against what was expected.
-pub fn compared(t: Tally, found: Verdict, expected: Verdict) -> Tally {
-    text(b": ");
-    verdict(found);
-    text(b", expected ");
-    verdict(expected);
-    counted(t, found == expected)
-}
+    // A vector's line.
+    pub fn counted<L: Display + Drop>(&mut self, line: L, equal: bool) {
+        let end = if equal { "" } else { " NOT EQUAL" };
+        let _ = println!(self.rt; "{line}{end}");
+        self.seen = self.seen.wrapping_add(1);
+        self.equal = self.equal.wrapping_add(u64::from(equal));
+    }
 
-// A number that was found against the one that was expected.
-pub fn numbers(t: Tally, label: &[u8], found: u64, expected: u64) -> Tally {
-    text(label);
-    text(b": ");
-    number(found);
-    text(b", expected ");
-    number(expected);
-    counted(t, found == expected)
+    // What was found against what was expected.
+    pub fn compared<L: Display + Drop>(&mut self, label: L, found: Verdict, expected: Verdict) {
+        self.counted(
+            format_args!("{label}: {}, expected {}", Shown(found), Shown(expected)),
+            found == expected,
+        );
+    }
+
+    // A number that was found against the one that was expected.
+    pub fn numbers(&mut self, label: &str, found: u64, expected: u64) {
+        self.counted(
+            format_args!("{label}: {found}, expected {expected}"),
+            found == expected,
+        );
+    }
+
+    pub fn sum_up(self) {
+        let Bench {
+            rt,
+            seen,
+            equal,
+            ..
+        } = self;
+        let _ = if seen == equal {
+            println!(rt; "all {seen} vectors equal")
+        } else {
+            println!(rt; "{equal} of {seen} vectors equal")
+        };
+    }
 }

@@ -1,6 +1,14 @@
 // Two tapes: one with every kind of call, of 57 words, and the small one of 21 words that docs/TAPE.md prints.
-use calls::{DepthCounts, Estimates, Settings, Side, Sizes};
+use calls::{DepthCounts, Estimates, ProbeTimes, Settings, Side, Sizes};
 use tape_writer::PutError;
+
+// A probe of which each time shows which half of it stands where.
+pub(crate) const TIMES: ProbeTimes = ProbeTimes {
+    t1: 1,
+    t2: 4294967298,
+    t3: 18446744073709551615,
+    t4: 0,
+};
 
 pub fn small_sizes() -> Sizes {
     Sizes {
@@ -59,7 +67,7 @@ fn channel_calls(t: &mut [u8], place: usize) -> Result<usize, PutError> {
 
 // Places 30 to 55: a probe, a one-way, a depth, a transmit depth.
 fn clock_calls(t: &mut [u8], place: usize) -> Result<usize, PutError> {
-    let p = tape_writer::put_probe(t, place, 1, 4294967298, 18446744073709551615, 0)?;
+    let p = tape_writer::put_probe(t, place, TIMES)?;
     let p = tape_writer::put_one_way(t, p, 12884901892, 5)?;
     let p = tape_writer::put_depth(t, p, 4294967295, depth_counts())?;
     tape_writer::put_transmit_depth(t, p, 7)

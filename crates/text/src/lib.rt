@@ -29,6 +29,7 @@ fn digits(n: u64) -> usize
 }
 
 // 0 to 9, then a to f.
+#[tactic(auto, unfolding(model::specs::Replay::hex_digit))]
 fn digit(d: u64) -> u8
     requires { d < 16 }
     ensures { result ≡ hex_digit d }
@@ -67,7 +68,9 @@ pub fn put_byte(out: &mut [u8], at: usize, byte: u8) -> Option<usize>
     Some(at + 1)
 }
 
-// Writes a number in decimal.
+// Writes a number in decimal. (The target and the place are no struct here, since each caller writes at places of its own, and a
+// struct would have to be lent both; where they travel together, in `lines`, they are one.)
+#[tactic(auto, using(crate::proofs::DigitLaws::decimal_digits))]
 pub fn put_decimal(out: &mut [u8], at: usize, n: u64) -> Option<usize>
     ensures { Written (decimal n) at out.old out.new result }
 {
@@ -98,6 +101,7 @@ pub fn put_signed(out: &mut [u8], at: usize, n: i64) -> Option<usize>
 }
 
 // Writes 32 bits as eight lower-case hexadecimal digits.
+#[tactic(auto, using(crate::proofs::DigitLaws::hex_digits_law))]
 pub fn put_hex(out: &mut [u8], at: usize, bits: u32) -> Option<usize>
     ensures { Written (hex_digits 8 bits) at out.old out.new result }
 {

@@ -7,13 +7,12 @@ pub mod words;
 
 ghost use Rattle.std.specs.Prelude.{◌≡◌, ◌≤◌, length};
 ghost use Rattle.model.specs.Bytes.{placed};
-ghost use Rattle.model.specs.Framing.{parse_header, valid_header, audio_start, audio_send_time, build_request, build_response, parse_request, parse_response};
+ghost use Rattle.model.specs.Framing.{header_length, parse_header, valid_header, audio_start, audio_send_time, build_request, build_response, parse_request, parse_response};
 ghost use Rattle.udp_framing.specs.Views.{header_of, header_found, send_time_found, or_refusal, request_answer, response_answer};
-ghost use Rattle.udp_framing.specs.Promises.{header_bytes, BuiltAs, Measured};
+ghost use Rattle.udp_framing.specs.Promises.{header_bytes, BuiltAs, TimePacketAsked, Measured};
 
 use big_endian::BigEndian;
-use calls::Refusal;
-use std::num::wrapping_sub_u64;
+use calls::{ProbeTimes, Refusal};
 use words::{as_signed, half_difference};
 
 // "RS", at the front of each datagram.
@@ -112,7 +111,8 @@ fn push_header(target: &mut [u8], stream_type: u8, sequence: u32, timestamp: u64
 }
 
 // Builds a time-sync request of 24 bytes, which carries the client's send time, at the front of the target. The answer
-// is the number of bytes. Where the target is too short, nothing is written.
+// is the number of bytes. Where the target is too short, nothing is written. The numbers are parameters as in rigflow, here
+// and below: a struct would be made for each call and taken apart here.
 pub fn build_time_sync_request(
     target: &mut [u8],
     probe_id: u32,
@@ -128,6 +128,20 @@ pub fn build_time_sync_request(
     Ok(24)
 }
 
+// The header of a time-sync packet, which has that type and so many bytes or more.
+fn time_header(packet: &[u8], stream_type: u8, size: usize) -> Result<MediaHeader, Refusal>
+    requires { header_length ≤ size }
+    ensures { TimePacketAsked stream_type size packet.now result }
+{
+    let Some(header) = parse_media_header(packet) else {
+        return Err(Refusal::NotTimePacket);
+    };
+    if header.stream_type != stream_type || packet.len() < size {
+        return Err(Refusal::NotTimePacket);
+    }
+    Ok(header)
+}
+
 #[derive(Clone, Copy, PartialEq, Eq, Debug)]
 pub struct TimeSyncRequest {
     pub probe_id: u32,
@@ -139,15 +153,7 @@ pub struct TimeSyncRequest {
 pub fn parse_time_sync_request(packet: &[u8]) -> Result<TimeSyncRequest, Refusal>
     ensures { request_answer result ≡ or_refusal 10 (parse_request packet.now) }
 {
-    let Some(header) = parse_media_header(packet) else {
-        return Err(Refusal::NotTimePacket);
-    };
-    if header.stream_type != STREAM_TYPE_TIME_SYNC_REQUEST {
-        return Err(Refusal::NotTimePacket);
-    }
-    if packet.len() < HEADER_LEN + 8 {
-        return Err(Refusal::NotTimePacket);
-    }
+    let header = time_header(packet, STREAM_TYPE_TIME_SYNC_REQUEST, HEADER_LEN + 8)?;
     Ok(TimeSyncRequest {
         probe_id: header.sequence,
         t1_ns: u64::read_from(packet, HEADER_LEN),
@@ -188,15 +194,7 @@ pub struct TimeSyncResponse {
 pub fn parse_time_sync_response(packet: &[u8]) -> Result<TimeSyncResponse, Refusal>
     ensures { response_answer result ≡ or_refusal 10 (parse_response packet.now) }
 {
-    let Some(header) = parse_media_header(packet) else {
-        return Err(Refusal::NotTimePacket);
-    };
-    if header.stream_type != STREAM_TYPE_TIME_SYNC_RESPONSE {
-        return Err(Refusal::NotTimePacket);
-    }
-    if packet.len() < HEADER_LEN + 24 {
-        return Err(Refusal::NotTimePacket);
-    }
+    let header = time_header(packet, STREAM_TYPE_TIME_SYNC_RESPONSE, HEADER_LEN + 24)?;
     Ok(TimeSyncResponse {
         probe_id: header.sequence,
         t1_ns: u64::read_from(packet, 16),
@@ -212,17 +210,16 @@ pub struct OffsetRtt {
     pub rtt: i64,
 }
 
-// From a probe's four times, client send, server receive, server send and client receive: ((t2 - t1) + (t3 - t4)) / 2
-// toward zero and (t4 - t1) - (t3 - t2), the low 64 bits of each.
-pub fn clock_offset_rtt(t1: u64, t2: u64, t3: u64, t4: u64) -> OffsetRtt
-    ensures { Measured t1 t2 t3 t4 result }
+// From a probe's four times: ((t2 - t1) + (t3 - t4)) / 2 toward zero and (t4 - t1) - (t3 - t2), the low 64 bits of each.
+pub fn clock_offset_rtt(t: ProbeTimes) -> OffsetRtt
+    ensures { Measured t result }
 {
-    let server = t2.carrying_add(t3, false);
-    let client = t1.carrying_add(t4, false);
+    let server = t.t2.carrying_add(t.t3, false);
+    let client = t.t1.carrying_add(t.t4, false);
     let offset = half_difference(server, client);
-    let away = wrapping_sub_u64(t4, t1);
-    let served = wrapping_sub_u64(t3, t2);
-    let rtt = wrapping_sub_u64(away, served);
+    let away = t.t4.wrapping_sub(t.t1);
+    let served = t.t3.wrapping_sub(t.t2);
+    let rtt = away.wrapping_sub(served);
     OffsetRtt {
         offset: as_signed(offset),
         rtt: as_signed(rtt),

@@ -3,8 +3,6 @@ ghost use Rattle.std.specs.Prelude.{◌≡◌, pos, ◌-ℤ◌, int_div};
 ghost use Rattle.model.specs.Clock.{bits64, signed64};
 ghost use Rattle.udp_framing.specs.Views.{sum_of};
 
-use std::num::wrapping_add_u64;
-
 // The low 64 bits of (a - b) / 2, rounded toward zero, for two sums of 64 bits, each with what it carries. The bit above
 // the low word of a - b is made of the carries and the borrow. Halving the bits rounds down, so an odd number below zero
 // gets one more.
@@ -17,7 +15,7 @@ pub(crate) fn half_difference(a: (u64, bool), b: (u64, bool)) -> u64
     let above = (carry + 2 - taken) % 2;
     let half = above * 0x8000_0000_0000_0000 + low / 2;
     if carry < taken {
-        return wrapping_add_u64(half, low % 2);
+        return half.wrapping_add(low % 2);
     }
     half
 }

@@ -8,6 +8,7 @@ ghost use Rattle.model.specs.Clock.{probe_offset, probe_round_trip};
 ghost use Rattle.udp_framing.specs.Views.{header_of};
 ghost use Rattle.udp_framing_exports.specs.Handing.{header_with, header_numbers, time_numbers, request_numbers, response_numbers, HandedFrom, BuiltOr0};
 
+use calls::ProbeTimes;
 use numbers::put;
 use udp_framing::MediaHeader;
 
@@ -131,12 +132,12 @@ pub extern "C" fn udp_framing_parse_time_sync_response(packet: &[u8], numbers: &
 pub extern "C" fn udp_framing_clock_offset(t1: u64, t2: u64, t3: u64, t4: u64) -> i64
     ensures { result ≡ probe_offset t1 t2 t3 t4 }
 {
-    udp_framing::clock_offset_rtt(t1, t2, t3, t4).offset
+    udp_framing::clock_offset_rtt(ProbeTimes { t1, t2, t3, t4 }).offset
 }
 
 #[unsafe(no_mangle)]
 pub extern "C" fn udp_framing_clock_rtt(t1: u64, t2: u64, t3: u64, t4: u64) -> i64
     ensures { result ≡ probe_round_trip t1 t2 t3 t4 }
 {
-    udp_framing::clock_offset_rtt(t1, t2, t3, t4).rtt
+    udp_framing::clock_offset_rtt(ProbeTimes { t1, t2, t3, t4 }).rtt
 }

@@ -1,41 +1,61 @@
 // Offset and round trip of RFC 5905, section 8, on plain times and on times near the wrap of 64 bits.
-use crate::print::{number, signed, text};
 use crate::tally::Tally;
+use calls::ProbeTimes;
 use udp_framing::OffsetRtt;
 
 const LAST: u64 = u64::MAX;
 
 const MIDDLE: u64 = 9223372036854775808;
 
-fn times(t: &mut Tally, t1: u64, t2: u64, t3: u64, t4: u64, offset: i64, rtt: i64) {
-    text(b"times");
-    number(t1);
-    number(t2);
-    number(t3);
-    number(t4);
-    text(b": offset and round trip");
-    let found = udp_framing::clock_offset_rtt(t1, t2, t3, t4);
-    signed(found.offset);
-    signed(found.rtt);
-    t.count(found == OffsetRtt { offset, rtt });
+fn sent(t1: u64, t2: u64, t3: u64, t4: u64) -> ProbeTimes {
+    ProbeTimes { t1, t2, t3, t4 }
+}
+
+fn clock(offset: i64, rtt: i64) -> OffsetRtt {
+    OffsetRtt { offset, rtt }
+}
+
+// The times of probes, each with what they come to.
+fn probes(t: &mut Tally, vectors: &[(ProbeTimes, OffsetRtt)]) {
+    for &(times, expected) in vectors {
+        let found = udp_framing::clock_offset_rtt(times);
+        let ProbeTimes { t1, t2, t3, t4 } = times;
+        t.count(
+            format_args!(
+                "times {t1} {t2} {t3} {t4}: offset and round trip {} {}",
+                found.offset, found.rtt
+            ),
+            found == expected,
+        );
+    }
 }
 
 fn plain(t: &mut Tally) {
-    times(t, 10, 5, 5, 11, -5, 1);
-    times(t, 1000, 1600, 1700, 1300, 500, 200);
-    times(t, 0, 0, 0, 1, 0, 1);
-    times(t, 0, 5, 0, 0, 2, 5);
-    times(t, 5, 0, 0, 0, -2, -5);
+    probes(
+        t,
+        &[
+            (sent(10, 5, 5, 11), clock(-5, 1)),
+            (sent(1000, 1600, 1700, 1300), clock(500, 200)),
+            (sent(0, 0, 0, 1), clock(0, 1)),
+            (sent(0, 5, 0, 0), clock(2, 5)),
+            (sent(5, 0, 0, 0), clock(-2, -5)),
+        ],
+    );
 }
 
 fn near_the_wrap(t: &mut Tally) {
-    times(t, 0, LAST, LAST, 1, -2, 1);
-    times(t, LAST, 0, 0, LAST, 1, 0);
-    times(t, 0, LAST, LAST, 0, -1, 0);
-    times(t, LAST, LAST, 0, 0, 0, 0);
-    times(t, MIDDLE, 0, 0, MIDDLE, -9223372036854775808, 0);
-    times(t, 0, MIDDLE, MIDDLE, 1, 9223372036854775807, 1);
-    times(t, 18446744073709551614, LAST, 0, 1, 0, 2);
+    probes(
+        t,
+        &[
+            (sent(0, LAST, LAST, 1), clock(-2, 1)),
+            (sent(LAST, 0, 0, LAST), clock(1, 0)),
+            (sent(0, LAST, LAST, 0), clock(-1, 0)),
+            (sent(LAST, LAST, 0, 0), clock(0, 0)),
+            (sent(MIDDLE, 0, 0, MIDDLE), clock(i64::MIN, 0)),
+            (sent(0, MIDDLE, MIDDLE, 1), clock(i64::MAX, 1)),
+            (sent(18446744073709551614, LAST, 0, 1), clock(0, 2)),
+        ],
+    );
 }
 
 pub(crate) fn run(t: &mut Tally) {

@@ -1,5 +1,4 @@
 // Headers of 15 and 16 bytes, versions 0 to 3, and audio datagrams of 23 and 24 bytes.
-use crate::print::{number, text};
 use crate::tally::Tally;
 use udp_framing::MediaHeader;
 
@@ -8,24 +7,21 @@ const DATAGRAM: [u8; 24] = [
     0x52, 0x53, 2, 1, 0, 0, 0, 7, 0, 0, 0, 1, 0, 0, 0, 2, 1, 2, 3, 4, 5, 6, 7, 8,
 ];
 
-fn print_header(h: MediaHeader) {
-    number(h.magic as u64);
-    number(h.version as u64);
-    number(h.stream_type as u64);
-    number(h.sequence as u64);
-    number(h.timestamp);
-}
-
+// What is expected of a packet has another type for each kind, so that it is no struct with the packet.
 fn header(t: &mut Tally, packet: &[u8], expected: Option<MediaHeader>) {
-    text(b"header of");
-    number(packet.len() as u64);
-    text(b" bytes:");
+    let n = packet.len();
     let found = udp_framing::parse_media_header(packet);
+    let same = found == expected;
     match found {
-        Some(h) => print_header(h),
-        None => text(b" none"),
+        Some(h) => t.count(
+            format_args!(
+                "header of {n} bytes: {} {} {} {} {}",
+                h.magic, h.version, h.stream_type, h.sequence, h.timestamp,
+            ),
+            same,
+        ),
+        None => t.count(format_args!("header of {n} bytes: none"), same),
     }
-    t.count(found == expected);
 }
 
 fn header_with(magic: u16, version: u8) -> MediaHeader {
@@ -39,38 +35,36 @@ fn header_with(magic: u16, version: u8) -> MediaHeader {
 }
 
 fn validity(t: &mut Tally, magic: u16, version: u8, expected: bool) {
-    text(b"magic and version");
-    number(magic as u64);
-    number(version as u64);
     let valid = udp_framing::is_valid_header(header_with(magic, version));
-    if valid {
-        text(b": valid");
-    } else {
-        text(b": not valid");
-    }
-    t.count(valid == expected);
+    let answer = if valid { "valid" } else { "not valid" };
+    t.count(
+        format_args!("magic and version {magic} {version}: {answer}"),
+        valid == expected,
+    );
 }
 
 fn start(t: &mut Tally, version: u8, expected: usize) {
-    text(b"audio of version");
-    number(version as u64);
-    text(b" starts at");
     let at = udp_framing::audio_samples_offset(version);
-    number(at as u64);
-    t.count(at == expected);
+    t.count(
+        format_args!("audio of version {version} starts at {at}"),
+        at == expected,
+    );
 }
 
 fn send_time(t: &mut Tally, version: u8, packet: &[u8], expected: Option<u64>) {
-    text(b"send time of version and bytes");
-    number(version as u64);
-    number(packet.len() as u64);
-    text(b":");
+    let bytes = packet.len();
     let found = udp_framing::audio_send_wall_ns(header_with(0x5253, version), packet);
+    let same = found == expected;
     match found {
-        Some(n) => number(n),
-        None => text(b" none"),
+        Some(n) => t.count(
+            format_args!("send time of version and bytes {version} {bytes}: {n}"),
+            same,
+        ),
+        None => t.count(
+            format_args!("send time of version and bytes {version} {bytes}: none"),
+            same,
+        ),
     }
-    t.count(found == expected);
 }
 
 fn parsed(t: &mut Tally) {

@@ -6,12 +6,12 @@
 
 mod clock;
 mod headers;
+mod hex;
 mod packets;
-mod print;
 mod tally;
 
-fn main() {
-    let mut t = tally::Tally::new();
+fn main(rt: HostRuntime) {
+    let mut t = tally::Tally::new(rt);
     clock::run(&mut t);
     headers::run(&mut t);
     packets::run(&mut t);

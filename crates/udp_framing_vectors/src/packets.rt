@@ -1,5 +1,5 @@
 // Time-sync packets, byte by byte, and targets and packets that are a byte too short.
-use crate::print::{bytes, number, text};
+use crate::hex::Hex;
 use crate::tally::Tally;
 use calls::Refusal;
 use udp_framing::{TimeSyncRequest, TimeSyncResponse};
@@ -12,13 +12,11 @@ fn built(
     target: &[u8],
     expected: &[u8],
 ) {
-    text(b"built:");
+    let same = answer == size && target == expected;
     match answer {
-        Ok(n) => number(n as u64),
-        Err(_) => text(b" refused"),
+        Ok(n) => t.count(format_args!("built: {n} {}", Hex(target)), same),
+        Err(_) => t.count(format_args!("built: refused {}", Hex(target)), same),
     }
-    bytes(target);
-    t.count(answer == size && target == expected);
 }
 
 fn build_requests(t: &mut Tally) {
@@ -58,33 +56,34 @@ fn build_responses(t: &mut Tally) {
 }
 
 fn request(t: &mut Tally, packet: &[u8], expected: Result<TimeSyncRequest, Refusal>) {
-    text(b"request:");
-    bytes(packet);
     let found = udp_framing::parse_time_sync_request(packet);
+    let same = found == expected;
     match found {
-        Ok(r) => {
-            number(r.probe_id as u64);
-            number(r.t1_ns);
-        }
-        Err(_) => text(b" refused"),
+        Ok(r) => t.count(
+            format_args!("request: {} {} {}", Hex(packet), r.probe_id, r.t1_ns),
+            same,
+        ),
+        Err(_) => t.count(format_args!("request: {} refused", Hex(packet)), same),
     }
-    t.count(found == expected);
 }
 
 fn response(t: &mut Tally, packet: &[u8], expected: Result<TimeSyncResponse, Refusal>) {
-    text(b"response:");
-    bytes(packet);
     let found = udp_framing::parse_time_sync_response(packet);
+    let same = found == expected;
     match found {
-        Ok(r) => {
-            number(r.probe_id as u64);
-            number(r.t1_ns);
-            number(r.t2_ns);
-            number(r.t3_ns);
-        }
-        Err(_) => text(b" refused"),
+        Ok(r) => t.count(
+            format_args!(
+                "response: {} {} {} {} {}",
+                Hex(packet),
+                r.probe_id,
+                r.t1_ns,
+                r.t2_ns,
+                r.t3_ns,
+            ),
+            same,
+        ),
+        Err(_) => t.count(format_args!("response: {} refused", Hex(packet)), same),
     }
-    t.count(found == expected);
 }
 
 fn parse(t: &mut Tally) {

@@ -9,10 +9,9 @@ use lib.ListN.{length, length-take, length-drop}
 use lib.Dec.{leb}
 use lib.Ieee.{Float}
 use borrow.Author.Tests.{leb-true, leb-false, le-leb, lt-leb, lt-ltb, le-ltb}
-use Rattle.model.specs.Bytes.{part, big_endian_at}
-use Rattle.model.specs.Row.{chunk_total}
+use Rattle.model.specs.Bytes.{part}
 use Rattle.model.specs.JitterBuffer.{Buffer}
-use Rattle.model.specs.Questions.{row_held, total_allowed}
+use Rattle.model.specs.Questions.{row_held}
 use Rattle.model.proofs.BoolLaws.{by_test}
 use Rattle.calls.specs.declared.Sizes.{Sizes}
 use Rattle.calls.specs.Views.{sizes_of}
@@ -49,30 +48,6 @@ module _ (bins : ℕ) (r : OpenRow) where
   pub filled_twice : r.total_bins ≤ bins → r.total_bins ≤ r.filled → r.total_bins ≤ r.filled - r.total_bins → false ≡ row_asked bins (Some r)
   unfolding row_asked
   filled_twice fits whole twice = rw (le-leb r.total_bins bins fits, le-ltb r.filled (2 * r.total_bins) (omega arith))
-
-module _ (bins : ℕ) (s : Screen) where
-  pub row_refused : row_asked bins s.row ≡ false → false ≡ screen_asked bins s
-  unfolding screen_asked
-  row_refused refused = rw refused
-
-  pub spectrum_refused : row_asked bins s.row ≡ true → bins < s.spectrum_len → false ≡ screen_asked bins s
-  unfolding screen_asked
-  spectrum_refused held long = rw (held, lt-leb s.spectrum_len bins long)
-
-  pub smoothing_left : row_asked bins s.row ≡ true → s.spectrum_len ≤ bins → leb s.smooth_len bins ≡ screen_asked bins s
-  unfolding screen_asked
-  smoothing_left held fits = rw (held, le-leb s.spectrum_len bins fits)
-
--- ---- question 8
-
-module _ (z : Sizes) (payload : List ℕ) where
-  pub no_total : length payload < 6 → true ≡ total_allowed (sizes_of z) payload
-  unfolding total_allowed
-  no_total few = rw (lt-leb 6 (length payload) few)
-
-  pub total_left : 6 ≤ length payload → (n : ℕ) → n ≡ big_endian_at 2 2 payload → leb n z.bins ≡ total_allowed (sizes_of z) payload
-  unfolding total_allowed chunk_total
-  total_left long n total = rw (le-leb 6 (length payload) long, total)
 
 -- ---- the model's question of the channel
 

@@ -3,11 +3,8 @@ use mathlib.Core.Path.{◌≡◌}
 use mathlib.Core.Bool.{true, false}
 use mathlib.Core.Option.{none}
 use mathlib.Core.List.{List}
-use Prim.Native.Nat.{ℕ, ◌%◌, ◌≤◌, ◌<◌}
-use lib.ListN.{length}
-use lib.Dec.{eqb}
+use Prim.Native.Nat.{ℕ}
 use lib.Ieee.{Float}
-use borrow.Author.Tests.{le-leb, lt-leb}
 use Rattle.model.specs.Floats.{f0}
 use Rattle.model.specs.Sizes.{Sizes}
 use Rattle.model.specs.Samples.{holds_samples}
@@ -15,18 +12,6 @@ use Rattle.model.specs.JitterBuffer.{Buffer, push}
 use Rattle.model.specs.Receiver.{Channel, row}
 use Rattle.model.specs.Step.{with_buffer, audio_into}
 use Rattle.jitter_buffer.specs.View.{packet_of}
-
--- ---- the payload's tests
-
-pub too_short_law : (payload : List ℕ) → length payload < 2 → false ≡ holds_samples payload
-unfolding holds_samples
-too_short_law payload short = rw (lt-leb 2 (length payload) short)
-
-pub long_enough : (payload : List ℕ) → 2 ≤ length payload → eqb (length payload % 2) 0 ≡ holds_samples payload
-unfolding holds_samples
-long_enough payload long = rw (le-leb 2 (length payload) long)
-
--- ---- what it does to the channel
 
 module _ (z : Sizes) (s : ℕ) (payload : List ℕ) (b : Buffer Float) (c : Channel) where
   pub audio_stops : holds_samples payload ≡ false → audio_into z s payload (with_buffer b c) ≡ record { after = with_buffer b c; answer = row none }

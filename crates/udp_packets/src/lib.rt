@@ -16,13 +16,11 @@ use udp::Display;
 use udp_framing::big_endian::BigEndian;
 
 // Whether a payload holds samples: 2 bytes or more, and of even length.
+#[tactic(auto, unfolding(model::specs::Samples::holds_samples))]
 fn holds_samples(payload: &[u8]) -> bool
     ensures { result ≡ holds_samples payload.now }
 {
-    if payload.len() < 2 {
-        return false;
-    }
-    payload.len() % 2 == 0
+    payload.len() >= 2 && payload.len() % 2 == 0
 }
 
 // An audio payload: one that holds no samples stops here, another is pushed.
@@ -48,6 +46,7 @@ pub fn handle_audio_packet(
 #[derive(Clone, Copy)]
 pub struct Screen {
     pub row: Option<OpenRow>,
+    // Of lent memory, which is lent with each call, a rule of the project: so both lengths stand here.
     pub spectrum_len: usize,
     pub smooth_len: usize,
     pub display: Display,
@@ -105,28 +104,20 @@ impl Screen {
 
     // Question 3 for what a channel shows: whether a receiver with rows of at most so many bins could hold it. It takes any
     // numbers.
+    #[tactic(auto, unfolding(crate::specs::Packets::screen_asked))]
     pub fn could_be_held(self, bins: usize) -> bool
         ensures { result ≡ screen_asked bins self }
     {
-        let row = self.row;
-        if !row_could_be_held(row, bins) {
-            return false;
-        }
-        if bins < self.spectrum_len {
-            return false;
-        }
-        self.smooth_len <= bins
+        row_could_be_held(self.row, bins) && self.spectrum_len <= bins && self.smooth_len <= bins
     }
 }
 
 // Question 8: a payload of 6 bytes or more names a total of at most so many bins.
+#[tactic(auto, unfolding(model::specs::Questions::total_allowed, model::specs::Row::chunk_total))]
 pub fn total_allowed(z: Sizes, payload: &[u8]) -> bool
     ensures { result ≡ total_allowed (sizes_of z) payload.now }
 {
-    if payload.len() < 6 {
-        return true;
-    }
-    (u16::read_from(payload, 2) as usize) <= z.bins
+    payload.len() < 6 || (u16::read_from(payload, 2) as usize) <= z.bins
 }
 
 // Shows the row of n bins that `rows` begins with: the spectrum and the estimates follow the raw row, then smoothing does,

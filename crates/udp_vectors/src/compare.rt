@@ -1,6 +1,4 @@
 // What was found against the words of a line.
-ghost use Rattle.std.specs.Prelude.{◌≤◌};
-
 use crate::words::word;
 use udp::{Display, StreamCounts};
 
@@ -11,9 +9,8 @@ pub struct Difference {
     pub expected: u32,
 }
 
-fn low(n: u64) -> u32
-    ensures { result ≤ 4294967295 }
-{
+// The low 32 bits: the library has no cast that drops bits.
+fn low(n: u64) -> u32 {
     (n % 4294967296) as u32
 }
 
@@ -59,7 +56,7 @@ fn each<F: Fn(usize) -> u32>(found: F, n: usize, words: &[u32]) -> Result<(), Di
     length(n, words)
 }
 
-// So many numbers from a place on. Where there are fewer, they end in zeros.
+// So many numbers from a place on. Where there are fewer, they end in zeros, which a slice in place of the three could not.
 pub(crate) fn numbers(
     found: &[u32],
     from: usize,
@@ -71,10 +68,7 @@ pub(crate) fn numbers(
 
 // The bits of a value, 0 past the end.
 fn bits_at(values: &[f32], at: usize) -> u32 {
-    match values.get(at) {
-        Some(x) => floats::to_bits(*x),
-        None => 0,
-    }
+    values.get(at).map_or(0, |x| floats::to_bits(*x))
 }
 
 // So many values from a place on.
@@ -109,14 +103,14 @@ pub(crate) fn sum(found: &[f32], from: usize, n: usize) -> u32 {
 // The colours from a level on.
 pub(crate) fn colours(words: &[u32]) -> Result<(), Difference> {
     let before = word(words, 0) % 256 + 255;
-    for i in 1..words.len() {
+    for (i, expected) in words.iter().enumerate().skip(1) {
         let level = (before + (i % 256) as u32) % 256;
         let found = spectrum_utils::color_map(level as u8);
-        if found != words[i] {
+        if found != *expected {
             return Err(Difference {
                 word: i,
                 found,
-                expected: words[i],
+                expected: *expected,
             });
         }
     }

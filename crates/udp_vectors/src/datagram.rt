@@ -4,6 +4,7 @@ ghost use Rattle.io.specs.Counts.{IsPrefixLen};
 
 use crate::payload;
 use crate::payload::put_u16;
+use crate::words::Line;
 use calls::Side;
 
 // The stream of a channel's rows.
@@ -22,23 +23,23 @@ pub(crate) fn put_header(d: &mut [u8], stream: u8, sequence: u32) {
     put_u16(d, 6, sequence);
 }
 
-// Puts a line's payload at the front.
-fn put_payload(letter: u8, p: &mut [u8], words: &[u32]) -> usize
+// Puts a line's payload at the front. A table of the three would hand out a function, which is refused.
+fn put_payload(line: Line<'_>, p: &mut [u8]) -> usize
     ensures { IsPrefixLen result p.new }
 {
-    match letter {
-        b'C' => payload::chunk(p, words),
-        b'L' => payload::ruled_chunk(p, words),
-        _ => payload::bytes(p, words),
+    match line.letter {
+        b'C' => payload::chunk(p, line.words),
+        b'L' => payload::ruled_chunk(p, line.words),
+        _ => payload::bytes(p, line.words),
     }
 }
 
 // A datagram of a channel's rows with a line's payload, put at the front. The answer is how many bytes it has.
-pub(crate) fn put_rows(letter: u8, side: Side, d: &mut [u8], words: &[u32]) -> usize
+pub(crate) fn put_rows(line: Line<'_>, side: Side, d: &mut [u8]) -> usize
     requires { 16 ≤ length d.old }
     ensures { IsPrefixLen result d.new }
 {
     put_header(d, rows_stream(side), 0);
-    let n = put_payload(letter, &mut d[16..], words);
+    let n = put_payload(line, &mut d[16..]);
     16 + n
 }

@@ -2,6 +2,7 @@
 use crate::compare;
 use crate::compare::Difference;
 use crate::session::Session;
+use crate::words::Line;
 use calls::{Side, Sizes};
 use reassembler::OpenRow;
 use receiver_state::readings::{picture_place, row_place};
@@ -23,18 +24,18 @@ fn row_len(row: Option<OpenRow>) -> usize {
 
 // Row, spectrum and smoothing buffer, which stand behind each other with room for `bins` values each.
 fn rows(
-    letter: u8,
+    line: Line<'_>,
     screen: Screen,
     bins: usize,
     fs: &[f32],
     row: usize,
-    words: &[u32],
 ) -> Result<(), Difference> {
+    let words = line.words;
     let spectrum = row.wrapping_add(bins);
     let smoothing = spectrum.wrapping_add(bins);
     let open = screen.row;
     let row_bins = row_len(open);
-    match letter {
+    match line.letter {
         b'R' => compare::values(fs, row, row_bins, words),
         b'S' => compare::values(fs, spectrum, screen.spectrum_len, words),
         b'M' => compare::values(fs, smoothing, screen.smooth_len, words),
@@ -56,31 +57,26 @@ fn picture(z: Sizes, side: Side, us: &[u32], words: &[u32]) -> Result<(), Differ
     }
 }
 
-pub(crate) fn look(
-    letter: u8,
-    s: Session,
-    fs: &[f32],
-    us: &[u32],
-    words: &[u32],
-) -> Result<(), Difference> {
+pub(crate) fn look(line: Line<'_>, s: &Session) -> Result<(), Difference> {
+    let words = line.words;
     let side = s.side;
     let r = s.receiver;
     let z = r.sizes;
     let channel = channel_of(r, side);
     let screen = channel.screen;
-    match letter {
+    match line.letter {
         b'K' => compare::colours(words),
         b'E' => compare::estimates(screen.display, words),
-        b'P' => picture(z, side, us, words),
+        b'P' => picture(z, side, &s.us, words),
         _ => match row_place(z, side) {
             None => compare::length(0, words),
-            Some(row) => rows(letter, screen, z.bins, fs, row, words),
+            Some(row) => rows(line, screen, z.bins, &s.fs, row),
         },
     }
 }
 
 // What streams 1 and 2 have counted, each for itself.
-pub(crate) fn counts(s: Session, words: &[u32]) -> Result<(), Difference> {
+pub(crate) fn counts(s: &Session, words: &[u32]) -> Result<(), Difference> {
     let r = s.receiver;
     let audio = r.audio;
     let waterfall = r.waterfall;

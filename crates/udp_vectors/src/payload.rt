@@ -1,31 +1,22 @@
 // Payloads of chunks, put into a lent slice. The answer is how many bytes they have, 0 where they have no room.
-ghost use Rattle.std.specs.Prelude.{◌<◌, ◌≤◌};
 ghost use Rattle.io.specs.Counts.{IsPrefixLen};
 
 use crate::words::word;
 
-fn put(p: &mut [u8], at: usize, b: u32) {
-    if at < p.len() {
-        p[at] = (b % 256) as u8;
+// As far as there is room.
+fn put(p: &mut [u8], at: usize, bytes: &[u8]) {
+    let Some(rest) = p.get_mut(at..) else {
+        return;
+    };
+    for (place, b) in rest.iter_mut().zip(bytes) {
+        *place = *b;
     }
 }
 
-// Big-endian, as the numbers of a header are.
-pub(crate) fn put_u16(p: &mut [u8], at: usize, x: u32)
-    requires { at < 65536 }
-{
-    put(p, at, x / 256);
-    put(p, at + 1, x);
-}
-
-// Little-endian, as the values of a chunk are.
-fn put_u32(p: &mut [u8], at: usize, x: u32)
-    requires { at < 65536 }
-{
-    put(p, at, x);
-    put(p, at + 1, x / 256);
-    put(p, at + 2, x / 65536);
-    put(p, at + 3, x / 16777216);
+// The low 16 bits, big-endian, as the numbers of a header are.
+pub(crate) fn put_u16(p: &mut [u8], at: usize, x: u32) {
+    let low = (x % 65536) as u16;
+    put(p, at, &low.to_be_bytes());
 }
 
 // Row number, total and first bin, which are the words from the second on.
@@ -44,9 +35,10 @@ fn with_room(p: &[u8], n: usize) -> usize
     n
 }
 
+// The words from the fifth on, behind the header, little-endian.
 fn put_values(p: &mut [u8], words: &[u32]) {
-    for i in 4..words.len().min(16001) {
-        put_u32(p, 4 * i - 10, words[i]);
+    for (at, word) in (6..p.len()).step_by(4).zip(words.iter().skip(4)) {
+        put(p, at, &word.to_le_bytes());
     }
 }
 
@@ -79,12 +71,10 @@ fn ruled(rule: u32, bin: u32) -> f32 {
     }
 }
 
-fn put_ruled(p: &mut [u8], first: u32, n: u32, rule: u32)
-    requires { n ≤ 16378 }
-{
-    for j in 0..n {
-        let x = ruled(rule, first % 65536 + j);
-        put_u32(p, (4 * j + 6) as usize, floats::to_bits(x));
+fn put_ruled(p: &mut [u8], first: u32, n: u32, rule: u32) {
+    for (at, j) in (6..p.len()).step_by(4).zip(0..n) {
+        let x = ruled(rule, first.wrapping_add(j));
+        put(p, at, &floats::to_bits(x).to_le_bytes());
     }
 }
 
@@ -101,12 +91,6 @@ pub(crate) fn ruled_chunk(p: &mut [u8], words: &[u32]) -> usize
     with_room(p, (4 * n + 6) as usize)
 }
 
-fn put_bytes(p: &mut [u8], words: &[u32]) {
-    for i in 1..words.len() {
-        put(p, i - 1, words[i]);
-    }
-}
-
 // The bytes as they are.
 pub(crate) fn bytes(p: &mut [u8], words: &[u32]) -> usize
     ensures { IsPrefixLen result p.new }
@@ -115,6 +99,8 @@ pub(crate) fn bytes(p: &mut [u8], words: &[u32]) -> usize
     if n < 1 {
         return 0;
     }
-    put_bytes(p, words);
+    for (place, word) in p.iter_mut().zip(&words[1..]) {
+        *place = (*word % 256) as u8;
+    }
     with_room(p, n - 1)
 }

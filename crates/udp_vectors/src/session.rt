@@ -1,5 +1,5 @@
-// A receiver in the state that a session has come to, and the channel that the session is on. Both areas are lent to
-// each call.
+// A receiver in the state that a session has come to, the channel that the session is on, and both areas, which are lent
+// to each call.
 use crate::compare;
 use crate::compare::Difference;
 use crate::words::word;
@@ -21,10 +21,13 @@ const ROW: u32 = 65536;
 // No session plays, and no line expects this.
 const PLAYED: u32 = 0;
 
-#[derive(Clone, Copy)]
+// Both areas are those of 65,535 bins and a picture of 256 places, and hold anything.
+#[derive(Drop)]
 pub struct Session {
     pub side: Side,
     pub receiver: Receiver,
+    pub fs: [f32; 458751],
+    pub us: [u32; 514],
     // The first difference since the session began.
     pub found: Result<(), Difference>,
 }
@@ -77,127 +80,107 @@ fn no_receiver() -> Receiver {
     }
 }
 
-pub(crate) fn start(side: Side) -> Session {
-    Session {
-        side,
-        receiver: no_receiver(),
-        found: Ok(()),
-    }
-}
-
-// What a look found.
-pub(crate) fn looked(s: Session, v: Result<(), Difference>) -> Session {
-    Session {
-        found: s.found.and(v),
-        ..s
-    }
-}
-
-// What a call left, and its answer against the one that is expected.
-fn called(s: Session, receiver: Receiver, answer: u32, expected: u32) -> Session {
-    Session {
-        receiver,
-        found: s.found.and(compare::answer(answer, expected)),
-        ..s
-    }
-}
-
-fn answer_word(answer: Answer) -> u32 {
+fn answer_word(answer: Result<Answer, Refusal>) -> u32 {
     match answer {
-        Answer::Refused(why) => why.number(),
-        Answer::Accepted => ACCEPTED,
-        Answer::NoRow => NO_ROW,
-        Answer::Row(n) => ROW + ((n % 65536) as u32),
-        Answer::Played {
-            taken: _,
-            dropped: _,
-            short: _,
-        } => PLAYED,
+        Err(why) => why.number(),
+        Ok(Answer::Accepted) => ACCEPTED,
+        Ok(Answer::NoRow) => NO_ROW,
+        Ok(Answer::Row(n)) => ROW + ((n % 65536) as u32),
+        Ok(
+            Answer::Played {
+                taken: _,
+                dropped: _,
+                short: _,
+            },
+        ) => PLAYED,
     }
 }
 
-// A setup with these estimates on one channel, and zeros on the other.
-fn set_up(
-    side: Side,
-    z: Sizes,
-    e: Estimates,
-    fs: &[f32],
-    us: &mut [u32],
-) -> Result<Receiver, Refusal> {
-    let zeros = estimates_of(&[]);
-    let mut a = e;
-    let mut b = zeros;
-    if let Side::B = side {
-        a = zeros;
-        b = e;
+impl Session {
+    pub(crate) fn new() -> Session {
+        Session {
+            side: Side::A,
+            receiver: no_receiver(),
+            fs: [0.0 / 0.0; 458751],
+            us: [7; 514],
+            found: Ok(()),
+        }
     }
-    setup(z, a, b, fs, us)
-}
 
-// Question 5 refuses estimates that are not finite. A state that holds them can still be handed in, and is made of a
-// setup with zeros: nothing but the estimates is changed.
-fn with_estimates(side: Side, z: Sizes, e: Estimates, fs: &[f32], us: &mut [u32]) -> Receiver {
-    let zeros = estimates_of(&[]);
-    match set_up(side, z, zeros, fs, us) {
-        Err(_) => no_receiver(),
-        Ok(r) => with_channel(r, side, Channel::new(e)),
+    // The areas hold what the session before has left there.
+    pub(crate) fn start(&mut self, side: Side) {
+        self.side = side;
+        self.receiver = no_receiver();
+        self.found = Ok(());
     }
-}
 
-// A setup.
-pub(crate) fn begin(s: Session, fs: &[f32], us: &mut [u32], words: &[u32]) -> Session {
-    let side = s.side;
-    let z = sizes_of(words);
-    let e = estimates_of(words);
-    match set_up(side, z, e, fs, us) {
-        Err(why) => called(
-            s,
-            with_estimates(side, z, e, fs, us),
-            why.number(),
-            word(words, 0),
-        ),
-        Ok(r) => called(s, r, ACCEPTED, word(words, 0)),
+    // What a look found.
+    pub(crate) fn looked(&mut self, v: Result<(), Difference>) {
+        self.found = self.found.and(v);
     }
-}
 
-// Question 5 refuses settings that are not finite. A state that holds them can still be handed in, and is made of the
-// former one: nothing but the settings is changed.
-fn with_settings(r: Receiver, side: Side, settings: Settings) -> Receiver {
-    let channel = channel_of(r, side);
-    with_channel(r, side, channel.set(settings))
-}
+    // What a call left, and its answer against the one that is expected.
+    fn called(&mut self, receiver: Receiver, answer: u32, expected: u32) {
+        self.receiver = receiver;
+        self.looked(compare::answer(answer, expected));
+    }
 
-// New settings.
-pub(crate) fn set(s: Session, fs: &[f32], us: &[u32], words: &[u32]) -> Session {
-    let side = s.side;
-    let settings = settings_of(words);
-    let before = s.receiver;
-    let answered = receiver::settings::set(before, fs, us, side, settings);
-    let receiver = answered.receiver;
-    let answer = answered.answer;
-    let told = answer_word(answer);
-    if told == 5 {
-        return called(
-            s,
-            with_settings(receiver, side, settings),
-            told,
-            word(words, 0),
+    // A setup with these estimates on one channel, and zeros on the other.
+    fn set_up(&mut self, z: Sizes, e: Estimates) -> Result<Receiver, Refusal> {
+        let zeros = estimates_of(&[]);
+        let (a, b) = match self.side {
+            Side::A => (e, zeros),
+            Side::B => (zeros, e),
+        };
+        setup(z, a, b, &self.fs, &mut self.us)
+    }
+
+    // Question 5 refuses estimates that are not finite. A state that holds them can still be handed in, and is made of a
+    // setup with zeros: nothing but the estimates is changed.
+    fn with_estimates(&mut self, z: Sizes, e: Estimates) -> Receiver {
+        match self.set_up(z, estimates_of(&[])) {
+            Err(_) => no_receiver(),
+            Ok(r) => with_channel(r, self.side, Channel::new(e)),
+        }
+    }
+
+    // A setup.
+    pub(crate) fn begin(&mut self, words: &[u32]) {
+        let z = sizes_of(words);
+        let e = estimates_of(words);
+        let expected = word(words, 0);
+        match self.set_up(z, e) {
+            Err(why) => {
+                let r = self.with_estimates(z, e);
+                self.called(r, why.number(), expected);
+            }
+            Ok(r) => self.called(r, ACCEPTED, expected),
+        }
+    }
+
+    // New settings. Question 5 refuses settings that are not finite. A state that holds them can still be handed in, and is
+    // made of the former one: nothing but the settings is changed.
+    pub(crate) fn set(&mut self, words: &[u32]) {
+        let side = self.side;
+        let settings = settings_of(words);
+        let answered = receiver::settings::set(self.receiver, &self.fs, &self.us, side, settings);
+        let mut receiver = answered.receiver;
+        let answer = answered.answer;
+        if let Err(Refusal::NotFinite) = answer {
+            let channel = channel_of(receiver, side);
+            receiver = with_channel(receiver, side, channel.set(settings));
+        }
+        self.called(receiver, answer_word(answer), word(words, 0));
+    }
+
+    // A datagram.
+    pub(crate) fn datagram(&mut self, bytes: &[u8], expected: u32) {
+        let answered = receiver_datagrams::handle_media_packet(
+            self.receiver,
+            &mut self.fs,
+            &mut self.us,
+            bytes,
         );
+        self.called(answered.receiver, answer_word(answered.answer), expected);
     }
-    called(s, receiver, told, word(words, 0))
-}
-
-// A datagram.
-pub(crate) fn datagram(
-    s: Session,
-    fs: &mut [f32],
-    us: &mut [u32],
-    bytes: &[u8],
-    expected: u32,
-) -> Session {
-    let before = s.receiver;
-    let answered = receiver_datagrams::handle_media_packet(before, fs, us, bytes);
-    let receiver = answered.receiver;
-    let answer = answered.answer;
-    called(s, receiver, answer_word(answer), expected)
 }

@@ -1,55 +1,45 @@
 // The words of a line: hexadecimal numbers, each behind a space.
 ghost use Rattle.std.specs.Prelude.{◌≤◌};
-ghost use Rattle.io.specs.Counts.{IsPrefixLen};
 
-// The value of a digit; 16 where it is none.
-fn digit(b: u8) -> u32
-    ensures { result ≤ 16 }
-{
-    match b {
-        b'0'..=b'9' => u32::from(b - b'0'),
-        b'a'..=b'f' => u32::from(b - b'a' + 10),
-        _ => 16,
-    }
-}
-
-// A number, and the place behind its digits.
+// A line's letter, and its words.
 #[derive(Clone, Copy)]
-struct Number {
-    value: u32,
-    next: usize,
+pub(crate) struct Line<'a> {
+    pub letter: u8,
+    pub words: &'a [u32],
 }
 
-// The number whose digits begin at a place.
-fn number_at(line: &[u8], at: usize) -> Number {
+// The value of a digit, which is never a capital letter.
+fn digit(b: u8) -> Option<u32> {
+    if b.is_ascii_uppercase() {
+        return None;
+    }
+    char::from(b).to_digit(16)
+}
+
+fn ends_a_word(b: &u8) -> bool {
+    digit(*b).is_none()
+}
+
+// The number of the digits, of which the last eight count.
+fn number(digits: &[u8]) -> u32 {
     let mut value: u32 = 0;
-    for next in at..line.len() {
-        let d = digit(line[next]);
-        if d == 16 {
-            return Number { value, next };
+    for b in digits {
+        if let Some(d) = digit(*b) {
+            value = (value << 4) | d;
         }
-        value = value % 268435456 * 16 + d;
     }
-    Number {
-        value,
-        next: at.max(line.len()),
-    }
+    value
 }
 
 // Puts the words behind a line's letter into `words`. The answer is how many they are.
-pub(crate) fn words_of(line: &[u8], words: &mut [u32]) -> usize
-    ensures { IsPrefixLen result words.new }
+pub(crate) fn words_of(line: &[u8], words: &mut [u32; 512]) -> usize
+    ensures { result ≤ 512 }
 {
-    let mut at: usize = 2;
-    for n in 0..words.len() {
-        if line.len() <= at {
-            return n;
-        }
-        let w = number_at(line, at);
-        words[n] = w.value;
-        at = w.next.wrapping_add(1);
+    let text = line.get(2..).unwrap_or(&[]);
+    for (word, digits) in words.iter_mut().zip(text.split_inclusive(ends_a_word)) {
+        *word = number(digits);
     }
-    words.len()
+    text.split_inclusive(ends_a_word).count().min(512)
 }
 
 // A word of a line, 0 where the line is shorter.

@@ -39,40 +39,44 @@ struct Shown {
     color: u32,
 }
 
-// The colour of a bin.
-fn color_at(bins: &[f32], bin: usize, bottom: f32, range: f32, colors: &[u32]) -> u32
-    requires { (bin < length bins.now) × (colors.now ≡ color_table) }
-    ensures { result ≡ bin_color bottom range bins.now bin }
-{
-    let level = spectrum_utils::level_above(bins[bin], bottom, range);
-    colors[level as usize]
+// How bins show: the range from `bottom` on, and the colours of all levels.
+#[derive(Drop)]
+struct Levels {
+    bottom: f32,
+    range: f32,
+    colors: [u32; 256],
+    ghost table: { colors ≡ color_table },
 }
 
-// What shows at a bin. Where it is the last one again, its colour is not worked out again.
-fn shown_at(last: Shown, bins: &[f32], bin: usize, bottom: f32, range: f32, colors: &[u32]) -> Shown
-    requires { (bin < length bins.now) × (colors.now ≡ color_table) × (last.color ≡ bin_color bottom range bins.now last.bin) }
-    ensures { (result.bin ≡ bin) × (result.color ≡ bin_color bottom range bins.now bin) }
-{
-    if last.bin == bin {
-        return last;
+impl Levels {
+    // The colour of a bin.
+    fn color_at(&self, bins: &[f32], bin: usize) -> u32
+        requires { bin < length bins.now }
+        ensures { result ≡ bin_color self.now.bottom self.now.range bins.now bin }
+    {
+        let level = spectrum_utils::level_above(bins[bin], self.bottom, self.range);
+        self.colors[level as usize]
     }
-    Shown {
-        bin,
-        color: color_at(bins, bin, bottom, range, colors),
+
+    // What shows at a bin. Where it is the last one again, its colour is not worked out again.
+    fn shown_at(&self, last: Shown, bins: &[f32], bin: usize) -> Shown
+        requires { (bin < length bins.now) × (last.color ≡ bin_color self.now.bottom self.now.range bins.now last.bin) }
+        ensures { (result.bin ≡ bin) × (result.color ≡ bin_color self.now.bottom self.now.range bins.now bin) }
+    {
+        if last.bin == bin {
+            return last;
+        }
+        Shown {
+            bin,
+            color: self.color_at(bins, bin),
+        }
     }
 }
 
 // Draws the top row from the bins that show, column after column.
-fn draw_columns(
-    buffer: &mut [u32],
-    width: usize,
-    bins: &[f32],
-    bottom: f32,
-    range: f32,
-    colors: &[u32],
-)
-    requires { Columns width (length bins.now) (length buffer.old) × (colors.now ≡ color_table) }
-    ensures { buffer.new ≡ placed 0 (map (column_color width bottom range bins.now) (count_from 0 width)) buffer.old }
+fn draw_columns(buffer: &mut [u32], width: usize, bins: &[f32], levels: &Levels)
+    requires { Columns width (length bins.now) (length buffer.old) }
+    ensures { buffer.new ≡ placed 0 (map (column_color width levels.now.bottom levels.now.range bins.now) (count_from 0 width)) buffer.old }
 {
     let by = Reach {
         bin: bins.len() / width,
@@ -81,10 +85,10 @@ fn draw_columns(
     let mut reach = Reach { bin: 0, rest: 0 };
     let mut shown = Shown {
         bin: 0,
-        color: color_at(bins, 0, bottom, range, colors),
+        color: levels.color_at(bins, 0),
     };
     for x in 0..width {
-        shown = shown_at(shown, bins, reach.bin, bottom, range, colors);
+        shown = levels.shown_at(shown, bins, reach.bin);
         buffer[x] = shown.color;
         reach = further(reach, by, width);
     }
@@ -104,9 +108,13 @@ fn draw_top(
     ensures { buffer.new ≡ placed 0 (map (shown width start visible top range row.now) (count_from 0 width)) buffer.old }
 {
     let least = spectrum_utils::least_range(range);
-    let colors = spectrum_utils::color_table();
+    let levels = Levels {
+        bottom: top - least,
+        range: least,
+        colors: spectrum_utils::color_table(),
+    };
     let end = start + visible;
-    draw_columns(buffer, width, &row[start..end], top - least, least, &colors);
+    draw_columns(buffer, width, &row[start..end], &levels);
 }
 
 // Draws a new row at the top of the picture: the rows that are there move down by one.

@@ -2,11 +2,12 @@
 use Rattle.std.proofs.Common.{◌∙◌, w64}
 use mir.ValLaws.{to_z-of_z}
 use Rattle.audio_metrics.proofs.DelayWords.{one_way_of_words}
+use Rattle.udp_framing.proofs.Wrapped.{wraps_back}
 use Rattle.audio_metrics.proofs.one_way_of.Goals as goal
 
 pub returns : goal.returns
 returns c = let e = to_z-of_z w64 c.args.offset c.ranges.offset in
     to_z-of_z w64 c.as_signed.result (record { sfits = c.as_signed.type_inv })
     ∙ c.as_signed.ensures
-    ∙ rw (c.wrapping_add_u64.ensures.value, c.as_bits.ensures, e)
-    (one_way_of_words c.args.recv c.args.send c.wrapping_sub_u64-delay.result c.ranges.recv.fits c.wrapping_sub_u64-delay.ensures.value c.args.offset c.ranges.offset)
+    ∙ rw (c.as_bits.ensures, e)
+    (one_way_of_words c.args.recv c.args.send _ c.ranges.recv.fits (wraps_back c.args.recv c.args.send c.ranges.recv.fits c.ranges.send.fits) c.args.offset c.ranges.offset)

@@ -1,11 +1,14 @@
--- `lines::put_head` meets its contract. Assumes nothing.
-use Rattle.std.proofs.Common.{arith, sym, leb-true, ◌*◌, ◌+◌, ◌≤◌, length}
+use Rattle.std.proofs.Common.{sym, leb-true, ◌*◌, ◌+◌, ◌≤◌, length, rules, subst, List, ℕ, Some}
 use Rattle.calls.specs.Views.{model_side}
-use Rattle.lines.proofs.Pieces.{written_piece, head_few, head_fitted}
+use Rattle.text.proofs.FittedLaws.{fitted_behind}
+use Rattle.lines.specs.Lines.{Piece, head}
+use Rattle.lines.proofs.Pieces.{written_piece, head_few, head_is}
 use Rattle.lines.proofs.put_head.Goals as goal
 
 pub returns : goal.returns
 returns c = let g = c.args in
     let room : 3 + 21 * length g.numbers.now ≤ length g.out.now = leb-true _ _ (sym c.if-not-has_room.ensures) in
-    written_piece (head_few g.letter g.numbers.now c.type_inv.numbers (model_side g.side)) room
-    (head_fitted g.letter g.numbers.now c.type_inv.numbers (model_side g.side) g.out.now (omega arith) (rw c.side_letter.ensures at c.put_numbers.ensures))
+    let few = head_few g.letter g.numbers.now c.type_inv.numbers (model_side g.side) in
+    let all = fitted_behind (fitted_behind (fitted_behind c.byte.ensures.fitted c.byte-2.ensures.fitted) (rw c.side_letter.ensures at c.byte-3.ensures.fitted)) c.words.ensures.fitted in
+    subst (λ (exit : List ℕ). Piece (3 + 21 * length g.numbers.now) (head g.letter (model_side g.side) g.numbers.now) g.out.now exit (Some c.words.new.self.at)) (search rules)
+    (written_piece few room (rw (← head_is g.letter g.numbers.now c.type_inv.numbers (model_side g.side)) at all))

@@ -1,24 +1,21 @@
-use mathlib.Core.Path.{refl, ◌∙◌}
+use mathlib.Core.Path.{refl}
 use mathlib.Core.List.{[]}
 use native.Mathlib.Omega.{arith}
 use Rattle.playback_windows.specs.Through.{start}
-use Rattle.playback_files.proofs.Windows.{steps_go_on}
+use Rattle.playback_files.proofs.Windows.{pieces_through, pieces_step_on, steps_go_on}
 use Rattle.playback_files.proofs.write_through.Goals as goal
 
-pub loop-p-init : goal.loop-p-init
-loop-p-init c = (λ base whole win. ([], start), omega arith, refl, refl, refl, refl)
+pub loop-form-init : goal.loop-form-init
+loop-form-init c = (λ base whole win. ([], start), omega arith)
 
-pub loop-p-smaller : goal.loop-p-smaller
-loop-p-smaller c = rw c.in-Again.is at c.write_pieces-t.ensures.through_in.1
+pub returns-then-not-write_all : goal.returns-then-not-write_all
+returns-then-not-write_all c = let g = c.args in
+    (c.pieces_in-gathered.result.playback, λ base. steps_go_on base g.w c.loop-form.p c.pieces_in-gathered.result.playback (c.loop-form.invariant.0 base) (pieces_step_on c.pieces_in-gathered.ensures base), refl)
 
-pub loop-p-preserved : goal.loop-p-preserved
-loop-p-preserved c = (λ base. steps_go_on base c.args.w c.loop-p.p c.write_pieces-t.result.playback (c.loop-p.invariant.0 base) (c.write_pieces-t.ensures.by_index base), omega (arith, c.loop-p.invariant.1, c.write_pieces-t.ensures.through_in.0.inside), c.fs-1.given ∙ c.loop-p.invariant.2, c.us-1.given ∙ c.loop-p.invariant.3, c.samples-1.given ∙ c.loop-p.invariant.4, c.text-1.given ∙ c.loop-p.invariant.5)
+pub returns-then-ne : goal.returns-then-ne
+returns-then-ne c = let g = c.args in
+    (λ base. steps_go_on base g.w c.loop-form.p c.pieces_in-gathered.result.playback (c.loop-form.invariant.0 base) (pieces_step_on c.pieces_in-gathered.ensures base), pieces_through c.pieces_in-gathered.ensures g.w c.loop-form.invariant.1)
 
-pub returns-in-Next : goal.returns-in-Next
-returns-in-Next c = record { by_index = λ base. steps_go_on base c.args.w c.loop-p.p c.write_pieces-t.result.playback (c.loop-p.invariant.0 base) (c.write_pieces-t.ensures.by_index base); through_in = record { inside = omega (arith, c.loop-p.invariant.1, c.write_pieces-t.ensures.through_in.0.inside); next = c.write_pieces-t.ensures.through_in.0.next } }
-
-pub returns-in-End : goal.returns-in-End
-returns-in-End c = record { by_index = λ base. steps_go_on base c.args.w c.loop-p.p c.write_pieces-t.result.playback (c.loop-p.invariant.0 base) (c.write_pieces-t.ensures.by_index base); through_in = record { inside = omega (arith, c.loop-p.invariant.1, c.write_pieces-t.ensures.through_in.0.inside); next = c.write_pieces-t.ensures.through_in.0.next } }
-
-pub returns-in-Unwritten : goal.returns-in-Unwritten
-returns-in-Unwritten c = record { by_index = λ base. steps_go_on base c.args.w c.loop-p.p c.write_pieces-t.result.playback (c.loop-p.invariant.0 base) (c.write_pieces-t.ensures.by_index base); through_in = record { inside = omega (arith, c.loop-p.invariant.1, c.write_pieces-t.ensures.through_in.0.inside); next = c.write_pieces-t.ensures.through_in.0.next } }
+pub loop-form-preserved : goal.loop-form-preserved
+loop-form-preserved c = let g = c.args in
+    (λ base. steps_go_on base g.w c.loop-form.p c.pieces_in-gathered.result.playback (c.loop-form.invariant.0 base) (pieces_step_on c.pieces_in-gathered.ensures base), (pieces_through c.pieces_in-gathered.ensures g.w c.loop-form.invariant.1).inside)

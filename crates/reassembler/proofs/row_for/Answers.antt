@@ -1,21 +1,18 @@
--- `reassembler::row_for` meets its contract: the four answers are the cases of `row_for`. Assumes nothing.
+-- `reassembler::row_for` meets its contract: the answers are the cases of `row_for`. Assumes nothing.
 use mathlib.Core.Path.{◌∙◌}
 use borrow.Author.Tests.{eq-eqb, ne_eqb}
 use Rattle.model.specs.Row.{row_for}
 use Rattle.reassembler.proofs.row_for.Goals as goal
+use Rattle.reassembler.proofs.row_for.Goals.{in_default-via-in-Some+then-open-row_seq+else-open-total_bins, in_default-via-in-Some+else-open-row_seq, in_default-via-in_default}
+
+pub returns-in-Some : goal.returns-in-Some
+unfolding row_for
+returns-in-Some c = rw (c.in-Some.is, eq-eqb _ _ c.if-open-row_seq.true, eq-eqb _ _ c.if-open-total_bins.true)
 
 pub returns-in_default : goal.returns-in_default
 unfolding row_for
-returns-in_default c = c.open_row.ensures ∙ rw c.in_default.is
-
-pub returns-then-current-row_seq : goal.returns-then-current-row_seq
-unfolding row_for
-returns-then-current-row_seq c = c.open_row-then-current-row_seq.ensures ∙ rw (c.in-Some.is, ne_eqb _ _ c.if-current-row_seq.true)
-
-pub returns-then-current-total_bins : goal.returns-then-current-total_bins
-unfolding row_for
-returns-then-current-total_bins c = c.open_row-then-current-total_bins.ensures ∙ rw (c.in-Some.is, eq-eqb _ _ c.if-current-row_seq.false, ne_eqb _ _ c.if-current-total_bins.true)
-
-pub returns : goal.returns
-unfolding row_for
-returns c = rw (c.in-Some.is, eq-eqb _ _ c.if-current-row_seq.false, eq-eqb _ _ c.if-current-total_bins.false)
+returns-in_default c = elim c.in_default.branch [
+  | in_default-via-in-Some+then-open-row_seq+else-open-total_bins w ↦ c.open_row.ensures ∙ rw (w.in-Some.is, eq-eqb _ _ w.if-open-row_seq.true, ne_eqb _ _ w.if-open-total_bins.false)
+  | in_default-via-in-Some+else-open-row_seq w ↦ c.open_row.ensures ∙ rw (w.in-Some.is, ne_eqb _ _ w.if-open-row_seq.false)
+  | in_default-via-in_default w ↦ c.open_row.ensures ∙ rw w.in_default.is
+]

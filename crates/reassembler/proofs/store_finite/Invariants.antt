@@ -1,6 +1,6 @@
 -- `reassembler::store_finite` meets its contract. The loop's invariant: the first j values are finite, and stored. Assumes nothing.
 use mathlib.Core.Path.{◌≡◌}
-use Prim.Native.Nat.{◌≤◌, ◌-◌}
+use Prim.Native.Nat.{◌≤◌}
 use lib.ListN.{length, take}
 use Rattle.model.specs.Bytes.{placed}
 use Rattle.model.specs.Row.{floats_of}

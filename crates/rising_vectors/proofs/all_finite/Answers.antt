@@ -1,34 +1,20 @@
-use Rattle.std.proofs.Common.{◌≡◌, ℕ, ◌+◌, ◌<◌, ◌≤◌, true, false, List, length, get_or, drop, sym, refl, ◌∙◌, add-one, arith, drop_of_length-le, drop-cons}
-use lib.Ieee.{Float, nan}
-use borrow.Author.Tests.{not-true, not-false}
+-- `rising_vectors::all_finite` meets its contract. Assumes nothing.
+use Rattle.std.proofs.Common.{◌≡◌, ◌∙◌, Bool, ◌&&◌, List, [], ◌∷◌, refl, ap, rules, tests}
+use Rattle.std.specs.List.{list_all}
+use Rattle.std.proofs.lemmas.Iterator.Search.{all_from_yields_List}
+use Rattle.std.proofs.lemmas.Iterator.{YieldsList-from_slice}
+use lib.Ieee.{Float}
 use Rattle.model.specs.Floats.{finite}
 use Rattle.model.specs.Bytes.{all}
 use Rattle.rising_vectors.proofs.all_finite.Goals as goal
 
--- `rising_vectors::all_finite` meets its contract. The loop's invariant: what is left is all finite exactly where the whole is. Assumes nothing.
-all_ends : (values : List Float) (i : ℕ) → length values ≤ i → all finite (drop i values) ≡ true
+-- the library's test of every element is the model's
+all_is_list_all : (xs : List Float) → list_all finite xs ≡ all finite xs
 unfolding all
-all_ends values i h = rw (drop_of_length-le values {i = i} h)
-
-all_fails : (values : List Float) (i : ℕ) → i < length values → finite (get_or values i nan) ≡ false → all finite (drop i values) ≡ false
-unfolding all
-all_fails values i h e = rw (drop-cons values i nan h, e)
-
-all_goes_on : (values : List Float) (i : ℕ) → i < length values → finite (get_or values i nan) ≡ true → all finite (drop i values) ≡ all finite (drop (i + 1) values)
-unfolding all
-all_goes_on values i h e = rw (drop-cons values i nan h, e, add-one)
-
-pub loop-x-init : goal.loop-x-init
-loop-x-init c = refl
-
-pub returns-then-not-is_finite : goal.returns-then-not-is_finite
-returns-then-not-is_finite c = let values = c.args.values.now in
-    sym (all_fails values c.loop-x.x-index (omega arith) (sym c.is_finite.ensures ∙ not-true c.is_finite.result c.if-not-is_finite.true-raw)) ∙ c.loop-x.invariant
-
-pub loop-x-preserved : goal.loop-x-preserved
-loop-x-preserved c = let values = c.args.values.now in
-    let more = all_goes_on values c.loop-x.x-index (omega arith) (sym c.is_finite.ensures ∙ not-false c.is_finite.result c.if-not-is_finite.false-raw) in
-    sym more ∙ c.loop-x.invariant
+all_is_list_all [] = refl
+all_is_list_all (x ∷ xs) = ap (λ (b : Bool). finite x && b) (all_is_list_all xs)
 
 pub returns : goal.returns
-returns c = sym (all_ends c.args.values.now c.loop-x.x-index (omega arith)) ∙ c.loop-x.invariant
+returns c = let r : c.all.result ≡ list_all finite c.args.values.now =
+    all_from_yields_List finite _ _ c.all.result c.all.ensures.ran (YieldsList-from_slice c.args.values.now (cc)) (λ x b q k. search (rules, tests)) in
+    r ∙ all_is_list_all c.args.values.now

@@ -1,5 +1,5 @@
 -- `udp::update_adaptive_waterfall_display` meets its contract: the three answers are the cases of `display_after`. Assumes nothing.
-use Rattle.std.proofs.Common.{sym, refl, ap, ◌∙◌, arith}
+use Rattle.std.proofs.Common.{sym, refl, ◌∙◌, arith}
 use borrow.Author.Tests.{not-true, not-false}
 use Rattle.model.specs.Bytes.{part}
 use Rattle.udp.specs.Views.{display_of}

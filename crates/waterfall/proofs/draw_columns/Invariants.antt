@@ -9,5 +9,5 @@ use Rattle.waterfall.proofs.Reached.{Reached}
 use Rattle.waterfall.proofs.draw_columns.Given as goal
 
 abbrev pub invariant-loop-x : goal.invariant-loop-x
-invariant-loop-x l = Reached l.width (length l.bins) l.x l.reach.bin l.reach.rest × (l.shown.color ≡ bin_color l.bottom l.range l.bins l.shown.bin)
-    × (l.buffer ≡ placed 0 (drawn (column_color l.width l.bottom l.range l.bins) l.x) l.initial.buffer) × (length l.buffer ≡ length l.initial.buffer)
+invariant-loop-x l = Reached l.width (length l.bins) l.x l.reach.bin l.reach.rest × (l.shown.color ≡ bin_color l.levels.bottom l.levels.range l.bins l.shown.bin)
+    × (l.buffer ≡ placed 0 (drawn (column_color l.width l.levels.bottom l.levels.range l.bins) l.x) l.initial.buffer) × (length l.buffer ≡ length l.initial.buffer)

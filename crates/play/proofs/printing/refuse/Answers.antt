@@ -3,5 +3,4 @@ use Rattle.playback.proofs.Replayed.{put_inside}
 use Rattle.play.proofs.printing.refuse.Goals as goal
 
 pub refused-requires : goal.refused-requires
-refused-requires c = let line = rw c.in-Refused.is at c.refuse_in-line.ensures in
-    put_inside _ _ _ _ line
+refused-requires c = put_inside _ _ _ _ c.in-Refused.ensures

@@ -12,7 +12,6 @@ unfolding side_of
 returns-in-Datagram c = let count : c.in-Datagram.at + c.in-Datagram.len - c.in-Datagram.at ≡ c.in-Datagram.len = omega arith in
     let stream = rw count at c.stream_in-stream.ensures in
     rw c.in-Datagram.is (record {
-      kind = refl;
       side = c.stream_facts-known.ensures.side ∙ ap stream_side stream;
       next_place = refl;
       samples = refl;

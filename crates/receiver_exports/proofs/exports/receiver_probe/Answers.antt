@@ -1,16 +1,15 @@
 -- `receiver_exports::exports::receiver_probe` meets its contract: it asks for its words, and then makes the receiver's call. Assumes nothing.
-use borrow.Author.Tests.{not-true, not-false}
 use Rattle.receiver_exports.proofs.Exporting.{long_enough, too_short_law, acted}
 use Rattle.receiver_exports.proofs.exports.receiver_probe.Goals as goal
 
 pub returns-then-not-words_there : goal.returns-then-not-words_there
-returns-then-not-words_there c = too_short_law _ _ _ tt c.words_there.ensures (not-true _ c.if-not-words_there.true-raw)
+returns-then-not-words_there c = too_short_law _ _ _ tt c.words_there.ensures c.if-not-words_there.true
 
 pub receiver_at-r-requires : goal.receiver_at-r-requires
-receiver_at-r-requires c = (long_enough _ _ c.words_there.ensures (not-false _ c.if-not-words_there.false-raw)).0
+receiver_at-r-requires c = (long_enough _ _ c.words_there.ensures c.if-not-words_there.false).0
 
 pub leave-requires : goal.leave-requires
-leave-requires c = long_enough _ _ c.words_there.ensures (not-false _ c.if-not-words_there.false-raw)
+leave-requires c = long_enough _ _ c.words_there.ensures c.if-not-words_there.false
 
 pub returns : goal.returns
-returns c = acted _ _ _ c.probe.result c.words_there.ensures (not-false _ c.if-not-words_there.false-raw) c.receiver_at-r.ensures c.probe.ensures c.leave.ensures
+returns c = acted _ _ _ c.probe.result c.words_there.ensures c.if-not-words_there.false c.receiver_at-r.ensures c.probe.ensures c.leave.ensures

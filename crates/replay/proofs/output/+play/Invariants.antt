@@ -3,4 +3,4 @@ use Prim.Native.Nat.{◌-◌}
 use Rattle.replay.proofs.output.+play.Given as goal
 
 abbrev pub decreases-play : goal.decreases-play
-decreases-play l = 1025 - l.asked
+decreases-play g l = 1025 - l.asked

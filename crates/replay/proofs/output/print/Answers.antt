@@ -3,10 +3,6 @@ use Rattle.std.proofs.Common.{sym, length-take-le}
 use Rattle.playback.proofs.Replayed.{put_inside}
 use Rattle.replay.proofs.output.print.Goals as goal
 
-pub slice_bounds-put-end : goal.slice_bounds-put-end
-slice_bounds-put-end c = let done = rw c.in-Refused.is at c.begin_limited.ensures in
-    put_inside _ _ _ _ done.0
-
-pub slice_bounds-put-end-in-Refused : goal.slice_bounds-put-end-in-Refused
-slice_bounds-put-end-in-Refused c = let done = rw c.in-Refused.is at c.begin_limited.ensures in
+pub slice_bounds-write_all-end : goal.slice_bounds-write_all-end
+slice_bounds-write_all-end g c = let done = rw c.in-Err-Refused.field-0-is at c.in-Err-Refused.ensures in
     sym (length-take-le _ _ (put_inside _ _ _ _ done.0))

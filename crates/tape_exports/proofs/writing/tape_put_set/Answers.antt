@@ -4,4 +4,4 @@ use native.Mathlib.Omega.{arith}
 use Rattle.tape_exports.proofs.writing.tape_put_set.Goals as goal
 
 pub returns : goal.returns
-returns c = call_handed _ (omega arith) c.answer.ensures _ (rw c.side_of.ensures at c.put_set.ensures)
+returns c = call_handed _ (omega arith) c.answer.ensures _ (rw c.from_number.ensures at c.put_set.ensures)

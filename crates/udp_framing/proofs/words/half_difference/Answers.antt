@@ -11,8 +11,7 @@ bit_small false = omega arith
 pub returns-then-carry-taken : goal.returns-then-carry-taken
 returns-then-carry-taken c = let g = c.args in
     let w = c.borrowing_sub-low.result in
-    c.wrapping_add_u64.ensures.value
-    ∙ half_of_words_down (from_bool g.a.1) g.a.0 (from_bool g.b.1) g.b.0 (from_bool w.1) w.0 (bit_small g.a.1) (omega (arith, c.borrowing_sub-low.ensures)) (search rules) (omega (arith, bit_small g.b.1, bit_small w.1)) c.if-carry-taken.true
+    half_of_words_down (from_bool g.a.1) g.a.0 (from_bool g.b.1) g.b.0 (from_bool w.1) w.0 (bit_small g.a.1) (omega (arith, c.borrowing_sub-low.ensures)) (search rules) (omega (arith, bit_small g.b.1, bit_small w.1)) c.if-carry-taken.true
 
 pub returns : goal.returns
 returns c = let g = c.args in
