@@ -182,19 +182,22 @@ fn groups() -> Vec<(&'static str, Vec<Session>)> {
 fn main() {
     println!("// Sessions of the jitter buffer, with what the original answered to each call (rustc 1.95.0). Printed by");
     println!("// oracle/jitter_sessions.sh, which says how a line is read.");
-    println!("use crate::session::run;\nuse crate::tally::Tally;");
-    let mut all = "t".to_string();
-    for (name, sessions) in groups() {
-        println!("\nfn {name}(t: Tally) -> Tally {{\n    run(\n        t,");
-        print!("        b\"");
+    println!("use crate::bench::Bench;\nuse crate::session::run;");
+    let groups = groups();
+    for (name, sessions) in &groups {
+        println!("\nfn {name}(b: &mut Bench) {{\n    run(\n        b,");
+        print!("        \"");
         for (i, s) in sessions.iter().enumerate() {
             if 0 < i {
                 println!();
             }
             s.print();
         }
-        println!("\",\n    )\n}}");
-        all = format!("{name}({all})");
+        println!("\",\n    );\n}}");
     }
-    println!("\npub fn all(t: Tally) -> Tally {{\n    {all}\n}}");
+    println!("\npub fn all(b: &mut Bench) {{");
+    for (name, _) in &groups {
+        println!("    {name}(b);");
+    }
+    println!("}}");
 }

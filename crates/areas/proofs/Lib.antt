@@ -1,3 +1,2 @@
 pub mod Placed
 pub mod PutBack
-pub mod Zipped

@@ -1,9 +1,10 @@
 -- A part of a list that was lent and comes back in its place: `placed`. Assumes nothing.
 use mathlib.Core.Path.{◌≡◌, sym, ◌∙◌}
-use mathlib.Core.List.{List, append_assoc}
+use mathlib.Core.List.{List, ◌++◌, append_assoc}
 use Prim.Native.Nat.{ℕ, ◌+◌, ◌-◌, ◌≤◌}
+use native.Mathlib.Nat.{zero-add}
 use native.Mathlib.Omega.{arith}
-use lib.ListN.{length, take, replicate, length-replicate}
+use lib.ListN.{length, take, drop, replicate, length-replicate}
 use lib.Seq.{drop-drop, take_all}
 use borrow.Rule.Slice.PartMut.{put_mid}
 use Rattle.std.specs.List.{copy_within}
@@ -27,6 +28,13 @@ part_put to n from xs ys zs fits is =
     let read : from + n - from ≡ n = omega arith in
     let written : to + n - to ≡ n = omega arith in
     rw (is, read, written) (put_back to n xs (part from n ys) (part_length from n ys fits))
+
+-- the same at the front
+pub front_put : {A : Type 0} (n from : ℕ) (xs ys zs : List A) → from + n ≤ length ys → zs ≡ part from (from + n - from) ys → zs ++ drop n xs ≡ placed 0 (part from n ys) xs
+unfolding placed
+front_put n from xs ys zs fits is =
+    let read : from + n - from ≡ n = omega arith in
+    rw (is, read, zero-add (length (part from n ys)), part_length from n ys fits)
 
 -- the same where each of them was written with x
 pub all_put : {A : Type 0} (at n i : ℕ) (x : A) (xs ys : List A) → length ys ≡ n → i ≡ n → take i ys ≡ replicate i x

@@ -2,7 +2,7 @@
 #![tactic(auto)]
 
 ghost use Rattle.std.specs.Prelude.{◌≡◌, ◌+◌, ◌≤◌, ◌<◌, length, replicate};
-ghost use Rattle.model.specs.Bytes.{part, placed};
+ghost use Rattle.model.specs.Bytes.{placed};
 ghost use Rattle.areas.specs.Parts.{moved};
 
 use std::mem::size_of_val;
@@ -13,7 +13,7 @@ const FEW: usize = 4096;
 
 // Writes the n elements from `from` again from `to` on, all read before the first is written. They go through the local copy
 // where they are 64 KB at most: the elements of a type parameter could be of any size.
-// A range to read and one to write of the same slice cannot both be lent, so places and numbers go beside it, here and below.
+// A range to read and one to write of the same slice cannot both be lent, so places and a number go beside it, in each move.
 fn move_few<T: Copy>(a: &mut [T], from: usize, to: usize, n: usize)
     requires { (0 < n) × (n ≤ 4096) × (from + n ≤ length a.old) × (to + n ≤ length a.old) }
     ensures { a.new ≡ moved from to n a.old }
@@ -33,12 +33,8 @@ pub fn move_down<T: Copy>(a: &mut [T], from: usize, to: usize, n: usize)
     requires { (to ≤ from) × (from + n ≤ length a.old) }
     ensures { a.new ≡ moved from to n a.old }
 {
-    let mut i = 0;
-    // No `for`: a step is as long as what goes at a time.
-    while i < n {
-        let few = FEW.min(n - i);
-        move_few(a, from + i, to + i, few);
-        i += few;
+    for i in (0..n).step_by(FEW) {
+        move_few(a, from + i, to + i, FEW.min(n - i));
     }
 }
 
@@ -48,7 +44,7 @@ pub fn move_up<T: Copy>(a: &mut [T], from: usize, to: usize, n: usize)
     ensures { a.new ≡ moved from to n a.old }
 {
     let mut left = n;
-    // No `for`: a step is as long as what goes at a time.
+    // No `for`: what `step_by` with `rev` has still to serve would stand in the invariant, in the library's terms of a run.
     while 0 < left {
         let few = FEW.min(left);
         left -= few;
@@ -56,15 +52,7 @@ pub fn move_up<T: Copy>(a: &mut [T], from: usize, to: usize, n: usize)
     }
 }
 
-// Writes the n elements of b from `from` on into a, from `to` on.
-pub fn copy<T: Copy>(a: &mut [T], b: &[T], from: usize, to: usize, n: usize)
-    requires { (from + n ≤ length b.now) × (to + n ≤ length a.old) }
-    ensures { a.new ≡ placed to (part from n b.now) a.old }
-{
-    a[to..to + n].copy_from_slice(&b[from..from + n]);
-}
-
-// Writes x at the n places from `at` on.
+// Writes x at the n places from `at` on. (The library's `fill` asks that x's clone is x and cannot fail, which `T: Copy` does not say.)
 pub fn fill<T: Copy>(a: &mut [T], at: usize, n: usize, x: T)
     requires { at + n ≤ length a.old }
     ensures { a.new ≡ placed at (replicate n x) a.old }

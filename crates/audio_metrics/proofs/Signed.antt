@@ -1,6 +1,6 @@
 -- Ranges of signed sums, differences and quotients, by their magnitudes; and a step between two numbers stays in their range. Assumes nothing.
 use Rattle.std.proofs.Common.{◌≡◌, ℕ, zero, suc, ◌+◌, ◌-◌, ◌*◌, ◌/◌, ◌^◌, ◌<◌, ◌≤◌, Bool, true, false, ltb, ℤ, pos, negsuc, ◌+ℤ◌, ◌-ℤ◌, neg_ℤ, nat_abs, refl, ap, ◌∙◌, mul-le-mul_right, div-le_self, arith, w64, SFits, to_z, of_z, ltb-false, ltb-true, lt-ltb, le-leb, leb-true}
-use mathlib.Core.Bool.{◌&&◌, false≢true}
+use mathlib.Core.Bool.{false≢true}
 use native.Mathlib.Nat.{mul-div-le}
 use lib.IntN.{sub_ℕ}
 use lib.Signed.{mag, le_z, lt_z, quot_z}
@@ -137,12 +137,3 @@ module _ (n old new : ℤ) (fn : SFits w64 n) (fo : SFits w64 old) (fw : SFits w
   quotient_read =
       rw (to_z-of_z w64 new fw, to_z-of_z w64 old fo, to_z-of_z w64 n fn, to_z-of_z w64 (new -ℤ old) (difference_fits 1 old new o w))
       (ap (λ (m : ℤ). to_z w64 (of_z w64 (quot_z (new -ℤ old) m))) (positive n p) ∙ to_z-of_z w64 (quot_z (new -ℤ old) (pos (nat_abs n))) (quotient_fits (nat_abs n) old new o w))
-
--- ---- ranges: a test of an argument's words is one of the number, and of two ends the high one counts only where the low one holds
-
-module _ (low high n : ℤ) (f : SFits w64 n) where
-  pub from_the_low_end : le_z low (to_z w64 (of_z w64 n)) ≡ true → le_z (to_z w64 (of_z w64 n)) high ≡ le_z low n && le_z n high
-  from_the_low_end above = let here : le_z low n ≡ true = rw (to_z-of_z w64 n f) at above in rw (to_z-of_z w64 n f, here)
-
-  pub below_the_low_end : le_z low (to_z w64 (of_z w64 n)) ≡ false → le_z low (to_z w64 (of_z w64 n)) ≡ le_z low n && le_z n high
-  below_the_low_end below = let here : le_z low n ≡ false = rw (to_z-of_z w64 n f) at below in rw (to_z-of_z w64 n f, here)

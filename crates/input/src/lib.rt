@@ -20,9 +20,9 @@ pub fn read_all<R: io::Read>(reader: &mut R, bytes: &mut [u8]) -> Result<usize, 
     let mut at = 0;
     // No `for`: what is counted are the bytes that reads bring.
     while at < bytes.len() {
-        let Ok(n) = reader.read(&mut bytes[at..]) else {
-            return Err(ReadFailed { bytes: at });
-        };
+        let n = reader
+            .read(&mut bytes[at..])
+            .map_err(|_| ReadFailed { bytes: at })?;
         if n == 0 {
             return Ok(at);
         }

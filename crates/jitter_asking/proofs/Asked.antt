@@ -3,26 +3,27 @@ use Rattle.std.proofs.Common.{Option, None, Some}
 use mathlib.Core.Path.{◌≡◌, refl, sym, ◌∙◌, ap}
 use mathlib.Core.Bool.{Bool, true, false, ◌&&◌, cond, and-eq-true_iff, and_assoc, and-true}
 use mathlib.Core.List.{List, [], ◌∷◌}
-use Prim.Native.Nat.{ℕ, zero, suc, ◌+◌, ◌-◌, ◌*◌, ◌/◌, ◌≤◌, ◌<◌, max}
-use native.Mathlib.Nat.{sub-zero, div-lt_iff_lt-mul}
+use Prim.Native.Nat.{ℕ, zero, suc, ◌+◌, ◌-◌, ◌*◌, ◌≤◌, ◌<◌, max}
+use native.Mathlib.Nat.{sub-zero}
 use native.Mathlib.Omega.{arith}
 use lib.ListN.{length, take, drop, get_or, length-take, length-drop}
 use lib.Seq.{get_or-take, length-take-le}
 use lib.Dec.{leb, ltb, eqb}
 use lib.Ieee.{Float}
-use borrow.Author.Tests.{ltb-true, ltb-false, leb-true, leb-false, eqb-true, eqb-false, lt-ltb, le-ltb, le-leb, lt-leb, eq-eqb, ne_eqb}
-use Rattle.model.specs.Sizes.{most_waiting}
+use borrow.Author.Tests.{ltb-true, ltb-false, leb-true, leb-false, eqb-true, lt-ltb, le-ltb, le-leb, lt-leb, eq-eqb, ne_eqb}
+use Rattle.model.specs.Sizes.{sizes_allowed, most_waiting}
 use Rattle.model.specs.JitterBuffer.{Counters}
 use Rattle.model.specs.Bytes.{all}
 use Rattle.model.specs.Questions.{most_calls, sequences, strictly_rising, start_held, counters_held, buffer_held}
 use Rattle.model.proofs.BoolLaws.{by_test}
+use Rattle.model.proofs.HeldKept.{NextFits}
 use Rattle.calls.specs.declared.Sizes.{Sizes}
 use Rattle.calls.specs.Views.{sizes_of}
 use Rattle.sizes.specs.View.{queue_at}
 use Rattle.jitter_buffer.specs.declared.JitterBuffer.{JitterBuffer}
 use Rattle.jitter_buffer.specs.View.{next_of, packets_from, counters_of, view_of}
-use Rattle.jitter_asking.specs.Fields.{words_from}
-use Rattle.jitter_asking.specs.Fields.{largest_counter, next_asked, start_asked}
+use Rattle.jitter_asking.specs.Fields.{words_from, largest_counter, next_asked, start_asked}
+use Rattle.jitter_asking.specs.Promises.{HeldTold}
 use Rattle.jitter_buffer.proofs.Places.{packets_length}
 
 -- ---- counters
@@ -38,21 +39,6 @@ leb_max a b l =
 pub counters_asked : (limit : ℕ) (k : Counters) → counters_held limit k ≡ leb (largest_counter k) limit
 unfolding counters_held all
 counters_asked limit k = simp (leb_max, and_assoc, and-true)
-
--- a counter is at most calls × 4,294,967,295
-pub counter_none : (calls n : ℕ) → n ≡ 0 → true ≡ leb n (calls * most_calls)
-counter_none calls n e = sym (le-leb n (calls * most_calls) (omega arith))
-
-pub counter_some : (calls n : ℕ) → (n ≡ 0 → ⊥) → ltb ((n - 1) / most_calls) calls ≡ leb n (calls * most_calls)
-counter_some calls n ne =
-    by_test (ltb ((n - 1) / most_calls) calls)
-    (λ t. t ∙ sym (le-leb n (calls * most_calls) (omega (arith, (div-lt_iff_lt-mul {k = most_calls} {x = n - 1} {y = calls} (omega arith)).0 (ltb-true _ _ t)))))
-    (λ t. t ∙ sym (lt-leb n (calls * most_calls) (by_test (ltb (calls * most_calls) n)
-    (λ u. ltb-true _ _ u)
-    (λ u. absurd (omega (arith, ltb-false ((n - 1) / most_calls) calls t, (div-lt_iff_lt-mul {k = most_calls} {x = n - 1} {y = calls} (omega arith)).1 (above (ltb-false (calls * most_calls) n u))))))))
-  where
-    above : n ≤ calls * most_calls → n - 1 < calls * most_calls
-    above h = by_test (eqb n 0) (λ e. absurd (ne (eqb-true n 0 e))) (λ e. omega (arith, eqb-false n 0 e))
 
 -- ---- the order
 
@@ -153,6 +139,35 @@ module _ (z : Sizes) (j : JitterBuffer) (fs : List Float) (us : List ℕ) (long 
       (λ q. rw (q, start_asked_law j.next_sequence r (ltb-true _ _ q)))
       (λ q. rw q)))
       (λ r. rw r))
+
+-- ---- the answer
+
+-- a test is asked where those before it were answered with yes: what each answer so far is
+pub record Tests (z : Sizes) (j : JitterBuffer) (us : List ℕ) (calls : ℕ) : Type 0 where
+  pub rising : Bool
+  pub queue : Bool
+  pub run : Bool
+  pub start : Bool
+  pub counters : Bool
+  pub by_rising : rising ≡ eqb (most_waiting (sizes_of z)) (length us) && (leb j.pending_len (length us) && strictly_rising (words_from 0 j.pending_len us))
+  pub by_queue : queue ≡ rising && ltb j.playout_len (z.target + z.packet)
+  pub by_run : run ≡ queue && leb j.consecutive_conceals 2
+  pub by_start : start ≡ run && start_asked z j us
+  pub by_counters : counters ≡ start && leb (largest_counter (counters_of j)) (calls * most_calls)
+  pub next : start ≡ true → NextFits (next_of j.next_sequence)
+
+pub told : {z : Sizes} {j : JitterBuffer} {us : List ℕ} {calls : ℕ} (r : Bool) → sizes_allowed (sizes_of z) ≡ true → (t : Tests z j us calls)
+    → r ≡ t.counters && ltb j.max_observed_buffered_samples (z.max + z.target + 2 * z.packet) → HeldTold z j us calls r
+told {z} {j} {us} {calls} r allowed t e =
+    record {
+      asked = λ fs long. rw (e, t.by_counters, t.by_start, t.by_run, t.by_queue, t.by_rising, allowed)
+          (by_test (eqb (most_waiting (sizes_of z)) (length us))
+          (λ y. let same : most_waiting (sizes_of z) ≡ length us = eqb-true _ _ y in rw (y, held_asked z j fs us long (calls * most_calls), same) (simp and_assoc))
+          (λ n. rw n));
+      next = λ yes.
+          let counters : t.counters ≡ true = ((and-eq-true_iff t.counters _).0 (sym e ∙ yes)).0 in
+          t.next ((and-eq-true_iff t.start _).0 (sym t.by_counters ∙ counters)).0;
+    }
 
 -- ---- the loop from the last pair on
 

@@ -26,15 +26,11 @@ fn rises(us: &[u32]) -> bool
     rising
 }
 
-// Whether a counter is at most calls × 4,294,967,295, without the product.
+// Whether a counter is at most calls × 4,294,967,295, without the product, which may not fit.
 pub fn counter_held(counter: u64, calls: u64) -> bool
     ensures { result ≡ leb counter (calls * most_calls) }
 {
-    if counter == 0 {
-        true
-    } else {
-        (counter - 1) / 4294967295 < calls
-    }
+    counter.div_ceil(4294967295) <= calls
 }
 
 // The largest of the eight counters.
@@ -51,6 +47,7 @@ fn largest_counter(j: JitterBuffer) -> u64
 }
 
 // Whether next fits what waits: none below it, and before the start an empty queue and too little.
+#[tactic(auto, unfolding(crate::specs::Fields::next_asked))]
 fn start_held(j: JitterBuffer, z: Sizes, us: &[u32]) -> bool
     requires { Sized z j × (j.pending_len ≤ length us.now) }
     ensures { StartTold z j us.now result }
@@ -64,35 +61,19 @@ fn start_held(j: JitterBuffer, z: Sizes, us: &[u32]) -> bool
 // Question 3 for one channel: whether a receiver of so many accepted calls could hold this buffer.
 // It takes any numbers and any slice, and answers no where the sizes are not allowed or the slice is not
 // exactly the part.
+#[tactic(auto, using(model::proofs::SizeLaws::allowed))]
 pub fn could_be_held(j: JitterBuffer, z: Sizes, us: &[u32], calls: u64) -> bool
     ensures { HeldTold z j us.now calls result }
 {
-    // No single `&&`: each question may be asked only where those before it were answered with yes.
     let Some(sizes) = AllowedSizes::of(z) else {
         return false;
     };
-    let most = sizes.most_waiting();
-    if most != us.len() {
-        return false;
-    }
-    let pending_len = j.pending_len;
-    if most < pending_len {
-        return false;
-    }
-    if !rises(&us[..pending_len]) {
-        return false;
-    }
-    if z.target + z.packet <= j.playout_len {
-        return false;
-    }
-    if 2 < j.consecutive_conceals {
-        return false;
-    }
-    if !start_held(j, z, us) {
-        return false;
-    }
-    if !counter_held(largest_counter(j), calls) {
-        return false;
-    }
-    j.max_observed_buffered_samples < z.max + z.target + 2 * z.packet
+    sizes.most_waiting() == us.len()
+        && j.pending_len <= us.len()
+        && rises(&us[..j.pending_len])
+        && j.playout_len < z.target + z.packet
+        && j.consecutive_conceals <= 2
+        && start_held(j, z, us)
+        && counter_held(largest_counter(j), calls)
+        && j.max_observed_buffered_samples < z.max + z.target + 2 * z.packet
 }

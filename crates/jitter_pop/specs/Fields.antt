@@ -5,22 +5,7 @@ use Rattle.jitter_pop.specs.declared.Popped.{Popped}
 
 -- so many samples are queued, and so many more were made up
 abbrev pub played_fields : ℕ → ℕ → JitterBuffer → JitterBuffer
-played_fields queued short j =
-    record {
-      max_observed_buffered_samples = j.max_observed_buffered_samples;
-      next_sequence = j.next_sequence;
-      pending_len = j.pending_len;
-      playout_len = queued;
-      consecutive_conceals = j.consecutive_conceals;
-      packets_received = j.packets_received;
-      packets_inserted = j.packets_inserted;
-      packets_missing_concealed = j.packets_missing_concealed;
-      packets_dropped_late = j.packets_dropped_late;
-      packets_dropped_overflow = j.packets_dropped_overflow;
-      packets_dropped_invalid_size = j.packets_dropped_invalid_size;
-      resync_count = j.resync_count;
-      filled = j.filled + short;
-    }
+played_fields queued short j = record j { playout_len = queued; filled = j.filled + short }
 
 -- a play of so many samples before the start
 abbrev pub silence_popped : ℕ → JitterBuffer → Popped

@@ -1,5 +1,6 @@
 // A play of a channel's jitter buffer: samples come out of the playout queue, the oldest are dropped where it
 // grows too long, and what is short is silence. The buffer and its lent memory are those of `jitter_buffer`.
+// Sizes, buffer and slices go in one by one: a struct of them would need a clause on each slice's reference in each contract.
 #![tactic(auto)]
 
 ghost use Rattle.std.specs.Prelude.{◌≡◌, ◌+◌, ◌^◌, ◌≤◌, ◌<◌, length, replicate};
@@ -53,7 +54,7 @@ fn hand_out(z: Sizes, j: JitterBuffer, fs: &mut [f32], out: &mut [f32], dropped:
     let queue = offsets.queue;
     let from = queue + dropped;
     let after = from + taken;
-    areas::copy(out, fs, from, 0, taken);
+    out[..taken].copy_from_slice(&fs[from..after]);
     areas::fill(out, taken, short, 0.0);
     areas::move_down(fs, after, queue, rest);
     Popped {

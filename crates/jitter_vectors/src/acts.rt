@@ -75,9 +75,9 @@ fn write_header(bytes: &mut [u8; 272], h: Header) {
 
 // The samples first, first + 1 and so on, in 16 bits, two bytes to each.
 fn count_up(bytes: &mut [u8; 272], first: u64) {
-    for i in 0..128 {
+    for (i, two) in bytes[16..].chunks_exact_mut(2).enumerate() {
         let sample = (first.wrapping_add(i as u64) % 65536) as u16;
-        bytes[16 + 2 * i..18 + 2 * i].copy_from_slice(&sample.to_le_bytes());
+        two.copy_from_slice(&sample.to_le_bytes());
     }
 }
 

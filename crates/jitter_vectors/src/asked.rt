@@ -1,10 +1,11 @@
 // A receiver that plays, one change to it or to what it is lent, and a call: what the call answers, and after a refusal
 // that nothing else is changed.
-use crate::acts::{Act, Areas, Lent, Player, sound};
-use crate::compare::{Difference, numbers, refused_alike, same};
+use crate::acts::{Act, Areas, Header, Lent, Player, sound};
+use crate::bench::{Failed, begun, ended_as, in_turn};
+use crate::compare::{Difference, refused_alike, same, sound_numbers};
 use crate::session::sizes;
-use crate::tally::{Failed, begun, ended_as, in_turn};
 use calls::{Refusal, Side, Sizes};
+use numbers::put;
 use receiver_state::sides::{channel_of, with_channel};
 use receiver_state::{Answer, Receiver};
 
@@ -55,16 +56,14 @@ fn packet(side: Side, sequence: u32) -> Act {
 fn changed(r: Receiver, side: Side, change: Change) -> Receiver {
     let mut v = r;
     let mut channel = channel_of(r, side);
-    let mut jitter = channel.jitter;
     match change {
         Change::Sizes(z) => v.sizes = z,
         Change::Calls(n) => v.calls = n,
-        Change::Run(n) => jitter.consecutive_conceals = n,
-        Change::Queue(n) => jitter.playout_len = n,
-        Change::Waiting(n) => jitter.pending_len = n,
+        Change::Run(n) => channel.jitter.consecutive_conceals = n,
+        Change::Queue(n) => channel.jitter.playout_len = n,
+        Change::Waiting(n) => channel.jitter.pending_len = n,
         Change::Second(_) => {}
     }
-    channel.jitter = jitter;
     with_channel(v, side, channel)
 }
 
@@ -81,15 +80,13 @@ fn change_word(us: &mut [u32; 64], side: Side, change: Change) {
 
 // A datagram's stream type is that for channel A; B's is two more.
 fn on_side(a: Act, side: Side) -> Act {
-    let Act::Datagram(h, first, n) = a else {
-        return a;
-    };
-    let mut v = h;
-    match side {
-        Side::A => {}
-        Side::B => v.stream_type = h.stream_type % 128 + 2,
+    match (a, side) {
+        (Act::Datagram(h, first, n), Side::B) => {
+            let stream_type = h.stream_type % 128 + 2;
+            Act::Datagram(Header { stream_type, ..h }, first, n)
+        }
+        _ => a,
     }
-    Act::Datagram(v, first, n)
 }
 
 // The sizes, the numbers of calls and headers, the counts of streams 1 and 2, and what waits and is queued on each
@@ -98,10 +95,8 @@ fn head(r: Receiver) -> [u64; 18] {
     let z = r.sizes;
     let audio = r.audio;
     let rows = r.waterfall;
-    let of_a = channel_of(r, Side::A);
-    let of_b = channel_of(r, Side::B);
-    let a = of_a.jitter;
-    let b = of_b.jitter;
+    let a = channel_of(r, Side::A).jitter;
+    let b = channel_of(r, Side::B).jitter;
     [
         z.packet as u64,
         z.target as u64,
@@ -124,27 +119,19 @@ fn head(r: Receiver) -> [u64; 18] {
     ]
 }
 
-// Stores the words from a place on, as far as there is room.
-fn put(all: &mut [u64; 119], from: usize, words: &[u64]) {
-    for (place, word) in all.iter_mut().skip(from).zip(words) {
-        *place = *word;
-    }
-}
-
-fn float_words(fs: &[f32]) -> [u64; 64] {
-    let mut all = [0u64; 64];
-    for (place, x) in all.iter_mut().zip(fs) {
-        *place = u64::from(floats::to_bits(*x));
+// A word for each value, and zeros where there are fewer values.
+fn words<const N: usize, T: Copy, F: Fn(T) -> u64>(values: &[T], word: F) -> [u64; N]
+    requires { F.IsAlwaysCallable word }
+{
+    let mut all = [0u64; N];
+    for (place, x) in all.iter_mut().zip(values) {
+        *place = word(*x);
     }
     all
 }
 
-fn wide_words(us: &[u32]) -> [u64; 11] {
-    let mut all = [0u64; 11];
-    for (place, word) in all.iter_mut().zip(us) {
-        *place = u64::from(*word);
-    }
-    all
+fn float_word(x: f32) -> u64 {
+    u64::from(floats::to_bits(x))
 }
 
 // The receiver but for what it shows and the clock, and every place of both areas that a call is lent.
@@ -152,10 +139,10 @@ fn everything(p: &Player) -> [u64; 119] {
     let r = p.receiver;
     let mut all = [0u64; 119];
     put(&mut all, 0, &head(r));
-    put(&mut all, 18, &numbers(r, Side::A));
-    put(&mut all, 31, &numbers(r, Side::B));
-    put(&mut all, 44, &float_words(&p.areas.fs));
-    put(&mut all, 108, &wide_words(&p.areas.us));
+    put(&mut all, 18, &sound_numbers(r, Side::A));
+    put(&mut all, 31, &sound_numbers(r, Side::B));
+    put(&mut all, 44, &words::<64, f32, _>(&p.areas.fs, float_word));
+    put(&mut all, 108, &words::<11, u32, _>(&p.areas.us, u64::from));
     all
 }
 
@@ -203,7 +190,7 @@ fn call_playing(
         let _ = p.call(packet(side, sequence), &mut out);
     }
     let playing = [4, 4, 0, 0, 0, 0, 0, 0, 16, 16, 1, 12, 0];
-    same(&numbers(p.receiver, side), &playing, "left")?;
+    same(&sound_numbers(p.receiver, side), &playing, "left")?;
     change_word(&mut p.areas.us, side, change);
     p.receiver = changed(p.receiver, side, change);
     p.lent = lent;
@@ -257,7 +244,11 @@ fn set_up_as(
     expect: Expect,
 ) -> Result<(), Difference> {
     refused_alike(answer, expect)?;
-    same(&wide_words(us), &words_left(expect), "left")
+    same(
+        &words::<11, u32, _>(us, u64::from),
+        &words_left(expect),
+        "left",
+    )
 }
 
 pub fn set_up(z: Sizes, lent: Lent, expect: Expect) -> Result<u64, Failed> {

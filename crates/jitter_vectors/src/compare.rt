@@ -33,10 +33,6 @@ pub struct Difference {
     pub expected: u64,
 }
 
-fn next_or_0(next: Option<u32>) -> u64 {
-    next.map_or(0, |s| u64::from(s))
-}
-
 // A state that has no amount shows as a number that no session expects.
 fn amount_word(a: Result<usize, Refusal>) -> u64 {
     match a {
@@ -84,11 +80,8 @@ pub fn refused_alike<T: Drop, E: Drop>(
 }
 
 // The numbers of a channel's sound.
-pub fn numbers(r: Receiver, side: Side) -> [u64; 13] {
-    let channel = channel_of(r, side);
-    let j = channel.jitter;
-    let amount = buffered_samples(r, side);
-    let next = j.next_sequence;
+pub fn sound_numbers(r: Receiver, side: Side) -> [u64; 13] {
+    let j = channel_of(r, side).jitter;
     [
         j.packets_received,
         j.packets_inserted,
@@ -99,9 +92,9 @@ pub fn numbers(r: Receiver, side: Side) -> [u64; 13] {
         j.resync_count,
         j.filled,
         j.max_buffered_samples() as u64,
-        amount_word(amount),
+        amount_word(buffered_samples(r, side)),
         u64::from(j.started()),
-        next_or_0(next),
+        j.next_sequence.map_or(0, u64::from),
         j.consecutive_conceals as u64,
     ]
 }
@@ -111,8 +104,26 @@ fn first_word(rest: &str) -> (&str, &str) {
     rest.split_once(' ').unwrap_or((rest, ""))
 }
 
+// A number against the expected one. None: what is expected is no number.
+fn agrees(
+    what: &'static str,
+    place: Option<usize>,
+    found: u64,
+    expected: Option<u64>,
+) -> Result<(), Difference> {
+    if expected == Some(found) {
+        return Ok(());
+    }
+    Err(Difference {
+        what,
+        place,
+        found,
+        expected: expected.unwrap_or(0),
+    })
+}
+
 // Numbers, each under its name, against those of a line. The answer is what is behind the last.
-pub fn agree<'a>(
+pub fn numbers_agree<'a>(
     found: &[u64],
     names: &[&'static str],
     line: &'a str,
@@ -120,15 +131,8 @@ pub fn agree<'a>(
     let mut rest = line;
     for (i, number) in found.iter().enumerate() {
         let (word, behind) = first_word(rest);
-        let expected = word.parse().ok();
-        if expected != Some(*number) {
-            return Err(Difference {
-                what: names.get(i).copied().unwrap_or("number"),
-                place: None,
-                found: *number,
-                expected: expected.unwrap_or(0),
-            });
-        }
+        let name = names.get(i).copied().unwrap_or("number");
+        agrees(name, None, *number, word.parse().ok())?;
         rest = behind;
     }
     Ok(rest)
@@ -139,16 +143,9 @@ pub fn samples_agree<'a>(out: &[f32], line: &'a str) -> Result<&'a str, Differen
     let mut rest = line;
     for (place, sample) in out.iter().enumerate() {
         let (word, behind) = first_word(rest);
-        let found = floats::to_bits(*sample);
-        let expected = u32::from_str_radix(word, 16).ok();
-        if expected != Some(found) {
-            return Err(Difference {
-                what: "sample",
-                place: Some(place),
-                found: u64::from(found),
-                expected: u64::from(expected.unwrap_or(0)),
-            });
-        }
+        let expected = u32::from_str_radix(word, 16).ok().map(u64::from);
+        let found = u64::from(floats::to_bits(*sample));
+        agrees("sample", Some(place), found, expected)?;
         rest = behind;
     }
     Ok(rest)
@@ -164,23 +161,10 @@ pub fn ends(rest: &str) -> Result<(), Difference> {
 
 // Two lists of numbers of one length, under the name `what`: the first difference.
 pub fn same(found: &[u64], expected: &[u64], what: &'static str) -> Result<(), Difference> {
-    if found.len() != expected.len() {
-        return Err(Difference {
-            what,
-            place: Some(found.len()),
-            found: found.len() as u64,
-            expected: expected.len() as u64,
-        });
-    }
+    let place = found.len();
+    agrees(what, Some(place), place as u64, Some(expected.len() as u64))?;
     for (place, (found, expected)) in found.iter().zip(expected).enumerate() {
-        if found != expected {
-            return Err(Difference {
-                what,
-                place: Some(place),
-                found: *found,
-                expected: *expected,
-            });
-        }
+        agrees(what, Some(place), *found, Some(*expected))?;
     }
     Ok(())
 }

@@ -6,15 +6,15 @@
 
 mod acts;
 mod asked;
+mod bench;
 mod compare;
 mod refused;
 mod session;
 mod sessions;
-mod tally;
 
 fn main(rt: HostRuntime) {
-    let mut t = tally::Tally::new(rt);
-    sessions::all(&mut t);
-    refused::all(&mut t);
-    t.sum_up();
+    let mut b = bench::Bench::new(rt);
+    sessions::all(&mut b);
+    refused::all(&mut b);
+    b.sum_up();
 }

@@ -3,24 +3,24 @@
 // datagrams out of their bounds.
 use crate::acts::{Act, Header, Lent};
 use crate::asked::{Change, Changes, Expect, all_called, called, exact, set_up};
+use crate::bench::{Bench, in_turn};
 use crate::session::sizes;
-use crate::tally::{Tally, in_turn};
 use calls::{Refusal, Side, Sizes};
 
 // A setup of these sizes on so many places, and all calls of a state with these sizes.
-fn sized(t: &mut Tally, name: &str, z: Sizes, lent: Lent, expect: Expect) {
+fn sized(b: &mut Bench, name: &str, z: Sizes, lent: Lent, expect: Expect) {
     let first = set_up(z, lent, expect);
-    let a = all_called(Side::A, Change::Sizes(z), lent, expect);
-    let b = all_called(Side::B, Change::Sizes(z), lent, expect);
-    t.count(name, in_turn(first, in_turn(a, b)));
+    let on_a = all_called(Side::A, Change::Sizes(z), lent, expect);
+    let on_b = all_called(Side::B, Change::Sizes(z), lent, expect);
+    b.count(name, in_turn(first, in_turn(on_a, on_b)));
 }
 
 // All calls of changed states.
-fn held(t: &mut Tally, states: &[(&str, Change, Expect)]) {
+fn held(b: &mut Bench, states: &[(&str, Change, Expect)]) {
     for &(name, change, expect) in states {
-        let a = all_called(Side::A, change, exact(), expect);
-        let b = all_called(Side::B, change, exact(), expect);
-        t.count(name, in_turn(a, b));
+        let on_a = all_called(Side::A, change, exact(), expect);
+        let on_b = all_called(Side::B, change, exact(), expect);
+        b.count(name, in_turn(on_a, on_b));
     }
 }
 
@@ -35,16 +35,16 @@ fn datagram(magic: u16, version: u8, stream_type: u8, n: usize) -> Act {
 }
 
 // Calls of a state as it is.
-fn as_it_is(t: &mut Tally, acts: &[(&str, Act, Expect)]) {
+fn as_it_is(b: &mut Bench, acts: &[(&str, Act, Expect)]) {
     let change = Change::Sizes(sizes(4, 8, 16));
     for &(name, a, expect) in acts {
         let first = called(Side::A, change, exact(), a, expect);
         let second = called(Side::B, change, exact(), a, expect);
-        t.count(name, in_turn(first, second));
+        b.count(name, in_turn(first, second));
     }
 }
 
-fn lengths(t: &mut Tally) {
+fn lengths(b: &mut Bench) {
     let lengths = [
         ("areas of the exact length", 63, 10, Ok(Changes::Any)),
         ("one float too few", 62, 10, Err(Refusal::NoRoom)),
@@ -53,12 +53,12 @@ fn lengths(t: &mut Tally) {
         ("one word more", 63, 11, Ok(Changes::Any)),
     ];
     for (name, floats, words, expect) in lengths {
-        sized(t, name, sizes(4, 8, 16), Lent { floats, words }, expect);
+        sized(b, name, sizes(4, 8, 16), Lent { floats, words }, expect);
     }
 }
 
 // Sizes that question 1 lets through are refused by question 2 on areas that are too short for them.
-fn limits(t: &mut Tally) {
+fn limits(b: &mut Bench) {
     let limits = [
         ("packet of no samples", 0, 8, 16, Refusal::Sizes),
         ("target below packet", 4, 3, 16, Refusal::Sizes),
@@ -70,13 +70,13 @@ fn limits(t: &mut Tally) {
         ("max too large", 4096, 65536, 131073, Refusal::Sizes),
     ];
     for (name, packet, target, max, why) in limits {
-        sized(t, name, sizes(packet, target, max), exact(), Err(why));
+        sized(b, name, sizes(packet, target, max), exact(), Err(why));
     }
 }
 
-fn states(t: &mut Tally) {
+fn states(b: &mut Bench) {
     held(
-        t,
+        b,
         &[
             ("run of two", Change::Run(2), Ok(Changes::Any)),
             ("run of three", Change::Run(3), Err(Refusal::NotHeld)),
@@ -107,9 +107,9 @@ fn states(t: &mut Tally) {
     );
 }
 
-fn plays_and_datagrams(t: &mut Tally) {
+fn plays_and_datagrams(b: &mut Bench) {
     as_it_is(
-        t,
+        b,
         &[
             ("longest play", Act::Play(65535), Ok(Changes::Any)),
             ("play too long", Act::Play(65536), Err(Refusal::Range)),
@@ -143,9 +143,9 @@ fn plays_and_datagrams(t: &mut Tally) {
     );
 }
 
-pub fn all(t: &mut Tally) {
-    lengths(t);
-    limits(t);
-    states(t);
-    plays_and_datagrams(t);
+pub fn all(b: &mut Bench) {
+    lengths(b);
+    limits(b);
+    states(b);
+    plays_and_datagrams(b);
 }

@@ -1,9 +1,10 @@
 // Runs a session on each channel of a receiver: its calls one after the other, each held against its line.
 use crate::acts::{Act, Areas, Lent, Player, sound};
+use crate::bench::{Bench, Failed, begun, ended_as, in_turn};
 use crate::compare::{
-    Difference, PLAY, SOUND, agree, ends, no_call, numbers, refused_by, same, samples_agree,
+    Difference, PLAY, SOUND, ends, no_call, numbers_agree, refused_by, same, samples_agree,
+    sound_numbers,
 };
-use crate::tally::{Failed, Tally, begun, ended_as, in_turn};
 use calls::{Refusal, Side, Sizes};
 use receiver_state::{Answer, Receiver};
 use sizes::AllowedSizes;
@@ -55,10 +56,8 @@ fn line_agrees(
     line: &str,
 ) -> Result<(), Difference> {
     let Act::Play(n) = a else {
-        if let Err(why) = answer {
-            return Err(refused_by(Some(why)));
-        }
-        return ends(agree(found, &SOUND, line)?);
+        answer.map_err(|why| refused_by(Some(why)))?;
+        return ends(numbers_agree(found, &SOUND, line)?);
     };
     let played = out.get(..n).ok_or(no_call())?;
     let Ok(
@@ -71,9 +70,9 @@ fn line_agrees(
     else {
         return Err(refused_by(answer.err()));
     };
-    let rest = agree(found, &SOUND, line)?;
+    let rest = numbers_agree(found, &SOUND, line)?;
     let amounts = [taken as u64, dropped as u64, short as u64];
-    let samples = agree(&amounts, &PLAY, rest)?;
+    let samples = numbers_agree(&amounts, &PLAY, rest)?;
     ends(samples_agree(played, samples)?)
 }
 
@@ -84,7 +83,7 @@ fn step(p: &mut Player, line: &str) -> Result<(), Difference> {
     let act = call_of(call, side).ok_or(no_call())?;
     let mut out = [3.0f32; 128];
     let answer = p.call(act, &mut out);
-    line_agrees(&numbers(p.receiver, side), act, answer, &out, told)
+    line_agrees(&sound_numbers(p.receiver, side), act, answer, &out, told)
 }
 
 fn other(side: Side) -> Side {
@@ -96,7 +95,7 @@ fn other(side: Side) -> Side {
 
 // What a session of n calls leaves when all its lines agree: the other channel is as it was, and the calls are counted.
 fn at_end(r: Receiver, side: Side, n: u64) -> Result<(), Difference> {
-    same(&numbers(r, other(side)), &[0u64; 13], "other")?;
+    same(&sound_numbers(r, other(side)), &[0u64; 13], "other")?;
     same(&[r.calls], &[n], "calls")
 }
 
@@ -112,16 +111,17 @@ fn steps(p: &mut Player, lines: &str) -> Result<u64, Failed> {
 
 // What a receiver of these sizes needs, exactly.
 fn needed(z: Sizes) -> Lent {
-    match AllowedSizes::of(z) {
-        None => Lent {
-            floats: 0,
-            words: 0,
-        },
-        Some(sizes) => Lent {
+    let nothing = Lent {
+        floats: 0,
+        words: 0,
+    };
+    AllowedSizes::of(z).map_or(
+        nothing,
+        |sizes| Lent {
             floats: sizes.float_area(),
             words: sizes.word_area(),
         },
-    }
+    )
 }
 
 // A session on one channel.
@@ -153,11 +153,11 @@ fn session_of(text: &str) -> Option<Session<'_>> {
 }
 
 // All sessions of a text, with an empty line between each two: the calls of each on channel A and again on B.
-pub fn run(t: &mut Tally, text: &str) {
+pub fn run(b: &mut Bench, text: &str) {
     for session in text.split("\n\n") {
         match session_of(session) {
-            Some(s) => t.count(s.name, in_turn(on(Side::A, s), on(Side::B, s))),
-            None => t.count(session, ended_as(Side::A, 0, Err(no_call()))),
+            Some(s) => b.count(s.name, in_turn(on(Side::A, s), on(Side::B, s))),
+            None => b.count(session, ended_as(Side::A, 0, Err(no_call()))),
         }
     }
 }

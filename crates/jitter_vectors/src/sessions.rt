@@ -1,11 +1,11 @@
 // Sessions of the jitter buffer, with what the original answered to each call (rustc 1.95.0). Printed by
 // oracle/jitter_sessions.sh, which says how a line is read.
+use crate::bench::Bench;
 use crate::session::run;
-use crate::tally::Tally;
 
-fn starred(t: &mut Tally) {
+fn starred(b: &mut Bench) {
     run(
-        t,
+        b,
         "in order 4 8 16
 push 10 4 1: 1 1 0 0 0 0 0 0 4 4 0 0 0
 push 11 4 5: 2 2 0 0 0 0 0 0 8 8 1 12 0
@@ -38,9 +38,9 @@ play 64: 2 2 0 0 0 0 0 10 128 0 1 3 0 54 0 10 3b16012c 3b180130 3b1a0134 3b1c013
     );
 }
 
-fn order(t: &mut Tally) {
+fn order(b: &mut Bench) {
     run(
-        t,
+        b,
         "wrap 2 4 8
 push 4294967294 2 32766: 1 1 0 0 0 0 0 0 2 2 0 0 0
 push 4294967295 2 65534: 2 2 0 0 0 0 0 0 4 4 1 0 0
@@ -79,9 +79,9 @@ play 9: 6 6 0 0 0 0 0 15 15 0 1 11 0 3 0 6 3a000100 3a080110 3a100120 00000000 0
     );
 }
 
-fn full(t: &mut Tally) {
+fn full(b: &mut Bench) {
     run(
-        t,
+        b,
         "duplicate of a full buffer 4 8 16
 push 10 4 1: 1 1 0 0 0 0 0 0 4 4 0 0 0
 push 11 4 5: 2 2 0 0 0 0 0 0 8 8 1 12 0
@@ -130,9 +130,9 @@ play 8: 8 3 0 3 0 1 0 8 12 0 1 13 0 0 0 8 00000000 00000000 00000000 00000000 00
     );
 }
 
-fn gaps(t: &mut Tally) {
+fn gaps(b: &mut Bench) {
     run(
-        t,
+        b,
         "two gaps 2 10 20
 push 1 2 1: 1 1 0 0 0 0 0 0 2 2 0 0 0
 push 2 2 3: 2 2 0 0 0 0 0 0 4 4 0 0 0
@@ -176,9 +176,9 @@ play 0: 0 0 0 0 0 0 0 0 176 0 0 0 0 0 0 0
     );
 }
 
-fn small(t: &mut Tally) {
+fn small(b: &mut Bench) {
     run(
-        t,
+        b,
         "packet of one sample 1 3 6
 push 5 1 1: 1 1 0 0 0 0 0 0 1 1 0 0 0
 push 6 1 32767: 2 2 0 0 0 0 0 0 2 2 0 0 0
@@ -248,10 +248,10 @@ play 4: 3 3 1 0 0 0 0 16 16 0 1 10 0 4 0 0 39900120 39a00140 39b00160 39c00180
     );
 }
 
-pub fn all(t: &mut Tally) {
-    starred(t);
-    order(t);
-    full(t);
-    gaps(t);
-    small(t);
+pub fn all(b: &mut Bench) {
+    starred(b);
+    order(b);
+    full(b);
+    gaps(b);
+    small(b);
 }

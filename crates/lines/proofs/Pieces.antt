@@ -1,7 +1,6 @@
 -- Pieces of text, from parts that fitted one behind the other. Assumes nothing.
 use Prim.Native.Nat.{ℕ, ◌+◌, ◌*◌, ◌≤◌, ◌<◌}
 use mathlib.Core.Path.{◌≡◌, refl, sym, ◌∙◌, ap}
-use mathlib.Core.Bool.{true≢false}
 use mathlib.Core.Option as maybe
 use mathlib.Core.List.{List, [], ◌∷◌, ◌++◌, map, append_assoc}
 use native.Mathlib.Omega.{arith}
@@ -10,13 +9,13 @@ use lib.IntN.{ℤ}
 use lib.Ieee.{Float}
 use mir.Syntax.{w64}
 use mir.Val.{Fits}
-use borrow.Author.Tests.{le-leb, lt-leb}
+use borrow.Author.Tests.{le-leb}
 use Rattle.model.specs.Bytes.{placed}
 use Rattle.model.specs.Framing.{Side}
 use Rattle.model.specs.JitterBuffer.{Counters, Played}
 use Rattle.model.specs.Clock as Clock
 use Rattle.model.specs.Replay.{decimal, hex_bits, line, rest, or_dash, side_letter, play_line, row_line, refused_line, bad_tape_line, channel_line, clock_line}
-use Rattle.std.proofs.Common.{Option, Some, None}
+use Rattle.std.proofs.Common.{Option, Some}
 use Rattle.text.proofs.FittedLaws.{Fitted}
 use Rattle.text.proofs.WrittenLaws.{byte_placed}
 use Rattle.lines.specs.Lines.{spaced, head, offset_word, round_trip_word, clock_text, Piece}
@@ -28,9 +27,6 @@ pub written_piece : {most : ℕ} {text entry exit : List ℕ} {next : ℕ} → l
     → Piece most text entry exit (Some next)
 written_piece {most} {text} {entry} few room f =
     record { few = λ fits. few; answered = rw (le-leb most (length entry) room) (ap Some (rw f.place (omega arith))); target = rw (le-leb most (length entry) room) f.target }
-
-pub no_piece : (most : ℕ) (text entry : List ℕ) → length entry < most → Piece most text entry entry None
-no_piece most text entry short = record { few = λ fits. absurd (true≢false (sym fits ∙ lt-leb most (length entry) short)); answered = rw (lt-leb most (length entry) short); target = rw (lt-leb most (length entry) short) }
 
 -- with room for the most that it can have, a piece is written
 module _ {most : ℕ} {text entry exit : List ℕ} {answer : Option ℕ} (piece : Piece most text entry exit answer) (room : most ≤ length entry) where

@@ -13,7 +13,6 @@ use Rattle.audio_metrics.specs.Views.{known_of, timing_of, delay_of}
 use Rattle.audio_metrics.specs.declared.ClockTiming.{ClockTiming}
 use Rattle.model.specs.Floats.{to_bits}
 use Rattle.model.proofs.Decimal.{decimal_at_most, hex_digits_length}
-use Rattle.model.proofs.ListLaws.{placed_length}
 use lib.IntN.{ℤ, pos, negsuc}
 use lib.Ieee.{Float}
 use mir.Syntax.{w64}
@@ -68,9 +67,6 @@ numbers_few (x ∷ xs) wide =
 
 pub nothing_fitted : (at : ℕ) (xs : List ℕ) → at ≤ length xs → Fitted [] at xs xs at
 nothing_fitted at xs inside = record { room = omega arith; place = omega arith; target = sym (none_placed at xs) }
-
-pub fitted_length : {bytes : List ℕ} {at next : ℕ} {entry exit : List ℕ} → Fitted bytes at entry exit next → length exit ≡ length entry
-fitted_length {bytes} {at} {next} {entry} f = rw f.target (placed_length at bytes entry f.room)
 
 -- ---- values
 

@@ -2,7 +2,7 @@
 #![tactic(auto)]
 
 ghost use Rattle.std.specs.Prelude.{List, ℕ, [], ◌<◌, ◌∷◌, map, ◌≡◌, ◌+◌, ◌*◌, ◌≤◌, length, max, nat_le};
-ghost use Rattle.model.specs.Replay.{decimal, signed_decimal, hex_bits, line, side_letter};
+ghost use Rattle.model.specs.Replay.{decimal, signed_decimal, hex_bits, line};
 ghost use Rattle.audio_metrics.specs.Views.{timing_of, delay_of};
 ghost use Rattle.calls.specs.Views.{model_side};
 ghost use Rattle.text.proofs.FittedLaws.{Fitted};
@@ -113,7 +113,8 @@ impl<'a> Line<'a> {
     }
 }
 
-// Whether so many bytes, and the most that so many numbers take, are at most so many.
+// Whether so many bytes, and the most that so many numbers take, are at most so many. (The tests of room in `text` and `tape_writer` count
+// in bytes and in words: one function for all would have to take the units too.)
 fn has_room(len: usize, bytes: usize, numbers: usize) -> bool
     ensures { result ≡ nat_le (bytes + 21 * numbers) len }
 {
@@ -143,16 +144,6 @@ pub fn put_values(out: &mut [u8], values: &[f32]) -> usize
     fitting.len()
 }
 
-#[tactic(auto, unfolding(model::specs::Replay::side_letter))]
-pub fn side_letter(side: Side) -> u8
-    ensures { result ≡ side_letter (model_side side) }
-{
-    match side {
-        Side::A => b'A',
-        Side::B => b'B',
-    }
-}
-
 // A letter, a channel and numbers: how a line of a play or of a row begins.
 pub fn put_head(out: &mut [u8], letter: u8, side: Side, numbers: &[u64]) -> Option<usize>
     ensures { Piece (3 + 21 * length numbers.now) (head letter (model_side side) numbers.now) out.old out.new result }
@@ -163,7 +154,7 @@ pub fn put_head(out: &mut [u8], letter: u8, side: Side, numbers: &[u64]) -> Opti
     let mut head = Line { out, at: 0 };
     head.byte(letter);
     head.byte(b' ');
-    head.byte(side_letter(side));
+    head.byte(side.letter());
     head.words(numbers);
     Some(head.at)
 }

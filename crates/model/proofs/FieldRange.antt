@@ -8,8 +8,7 @@ use mathlib.Core.List.{List}
 use lib.ListN.{drop, length-take}
 use lib.Dec.{lit≤}
 use Rattle.model.specs.Bytes.{big_endian_at, part, all}
-use Rattle.model.specs.Framing.{header_fields, header_length}
-use Rattle.model.specs.Row.{chunk_total}
+use Rattle.model.specs.Framing.{header_fields}
 use Rattle.model.proofs.ListLaws.{all_drop, all_take}
 use Rattle.model.proofs.BytesLaws.{is_byte, big_endian_below}
 
@@ -26,11 +25,3 @@ field_below at k bytes h =
 pub sequence_below : (bytes : List ℕ) → Bytes bytes → (header_fields bytes).sequence < 2 ^ 32
 unfolding header_fields
 sequence_below bytes h = field_below 4 4 bytes h
-
-pub total_below : (payload : List ℕ) → Bytes payload → chunk_total payload < 65536
-unfolding chunk_total
-total_below payload h = field_below 2 2 payload h
-
--- the total that the payload of a datagram's waterfall row names
-pub datagram_total_below : (bytes : List ℕ) → Bytes bytes → chunk_total (drop header_length bytes) < 65536
-datagram_total_below bytes h = total_below (drop header_length bytes) (all_drop is_byte header_length bytes h)

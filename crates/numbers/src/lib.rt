@@ -1,16 +1,16 @@
-// Numbers in a slice that a caller in another language lends.
+// Values in a slice that a caller lends.
 #![tactic(auto)]
 
 ghost use Rattle.std.specs.Prelude.{◌≡◌};
 ghost use Rattle.std.proofs.lemmas.List.Edits.{sets};
 
-// Stores the numbers from a place on, as far as the slice goes.
-pub fn put(out: &mut [u64], at: usize, numbers: &[u64])
-    ensures { out.new ≡ sets out.old at numbers.now }
+// Stores the values from a place on, as far as the slice goes.
+pub fn put<T: Copy>(out: &mut [T], at: usize, values: &[T])
+    ensures { out.new ≡ sets out.old at values.now }
 {
     if out.len() <= at {
         return;
     }
-    let n = numbers.len().min(out.len() - at);
-    out[at..at + n].copy_from_slice(&numbers[..n]);
+    let n = values.len().min(out.len() - at);
+    out[at..at + n].copy_from_slice(&values[..n]);
 }

@@ -30,12 +30,9 @@ fn lend(wanted: Wanted<'_>, window: &mut [u8]) {
 // How many arguments there are, the program's name among them.
 fn argument_count(rt: HostRuntime) -> usize {
     let mut word = io::buffer();
-    for i in 0..usize::MAX {
-        if let Err(FillError::NotPresent) = rt.arg(i, &mut word) {
-            return i;
-        }
-    }
-    usize::MAX
+    (0..usize::MAX)
+        .find(|&i| matches!(rt.arg(i, &mut word), Err(FillError::NotPresent)))
+        .unwrap_or(usize::MAX)
 }
 
 // The argument that so many from the end begin with, at the front of the bytes.

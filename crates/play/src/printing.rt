@@ -41,9 +41,9 @@ fn failed(failure: Failure) {
 // What is printed of a tape that is not accepted.
 pub fn not_accepted(why: NotAccepted) {
     match why {
-        NotAccepted::Bad(place) => {
+        NotAccepted::Bad(bad) => {
             let mut text = [0u8; 170];
-            refuse(place, &mut text);
+            refuse(bad.place, &mut text);
         }
         NotAccepted::Failed(failure) => failed(failure),
         NotAccepted::NoRoom => saying::unreadable(),

@@ -32,7 +32,7 @@ put_front text entry exit n put = rw (put.target, put.length_is) (take_at text _
 abbrev still : Form → Moment → List Call → List ℕ
 still form m cs = remaining_of form m.playback m.floats m.words m.samples cs
 
--- of the calls that a tape holds those that are left behind a step
+-- of the calls that a tape holds those that are left behind a piece, which with what they print is what was to be printed
 record GoesOn (form : Form) (tape : List ℕ) (m : Moment) (piece : List ℕ) (n : Moment) (cs : List Call) : Type 0 where
   left : List Call
   meets : CallsAt tape n.playback.place left
@@ -65,13 +65,8 @@ goes_on form tape m n text text' v step behind cs calls = by_doing m.playback.do
     by_doing Doing.LineC doing calls = on cs (rw doing) (rw doing calls)
     by_doing Doing.Done doing calls = on cs (rw doing) (rw doing calls)
 
--- what was to be printed is what was written and what is still to be printed, by the calls that are left
-record Onward (form : Form) (tape : List ℕ) (m : Moment) (printed : List ℕ) (last : Moment) (cs : List Call) : Type 0 where
-  left : List Call
-  meets : CallsAt tape last.playback.place left
-  lines : still form m cs ≡ printed ++ still form last left
-
-steps_onward : (form : Form) (tape : List ℕ) (m last : Moment) (printed : List ℕ) (cs : List Call) → StepsAs form tape m printed last → CallsAt tape m.playback.place cs → Onward form tape m printed last cs
+-- what was to be printed is what the steps wrote and what is still to be printed, by the calls that are left
+steps_onward : (form : Form) (tape : List ℕ) (m last : Moment) (printed : List ℕ) (cs : List Call) → StepsAs form tape m printed last → CallsAt tape m.playback.place cs → GoesOn form tape m printed last cs
 steps_onward form tape m last printed cs here calls = record { left = cs; meets = calls; lines = refl }
 steps_onward form tape m last printed cs (wrote {n = n} {text = text} {text' = text'} {printed = rest} {v = v} step behind steps) calls =
     let on = goes_on form tape m n text text' v step behind cs calls in

@@ -1,12 +1,13 @@
 -- A call moves the tape's place on, so that only so many steps are left; and values inside of what is lent. Assumes nothing.
-use Prim.Native.Nat.{ℕ, zero, suc, ◌+◌, ◌-◌, ◌*◌, ◌≤◌, ◌<◌, min}
+use Prim.Native.Nat.{ℕ, ◌+◌, ◌-◌, ◌*◌, ◌≤◌, ◌<◌, min}
 use mathlib.Core.Path.{◌≡◌, refl, sym, ◌∙◌, ap}
 use mathlib.Core.Bool.{Bool, true, false, not, ◌&&◌}
-use mathlib.Core.List.{List, [], ◌∷◌}
+use mathlib.Core.List.{List}
 use native.Mathlib.Omega.{arith}
 use native.Mathlib.Nat.{mul-le-mul_right}
-use lib.ListN.{length, take, drop, length-take, length-drop}
-use lib.Seq.{take_all, drop-length}
+use lib.ListN.{length, take, drop, length-take, length-drop, drop_of_length-le}
+use lib.Seq.{drop-length}
+use Rattle.std.proofs.lemmas.List.{take_min}
 use lib.Dec.{leb}
 use lib.Ieee.{Float}
 use borrow.Author.Tests.{leb-true, leb-false, not-false}
@@ -70,15 +71,6 @@ moved_less words place next most few further inside small =
 
 -- ---- a row's values, cut to what is lent
 
-drop_all : (n : ℕ) (xs : List Float) → length xs ≤ n → drop n xs ≡ []
-drop_all n [] few = drop_none n
-  where
-    drop_none : (k : ℕ) → drop {A = Float} k [] ≡ []
-    drop_none zero = refl
-    drop_none (suc k) = refl
-drop_all zero (x ∷ xs) few = absurd (omega (arith, few))
-drop_all (suc n) (x ∷ xs) few = drop_all n xs (omega (arith, few))
-
 drop_inside : (place : ℕ) (xs : List Float) → drop (min place (length xs)) xs ≡ drop place xs
 drop_inside place xs =
     by_test (leb place (length xs))
@@ -86,23 +78,14 @@ drop_inside place xs =
     (λ no.
     let past : length xs ≤ place = omega (arith, leb-false place (length xs) no) in
     let last : min place (length xs) ≡ length xs = omega arith in
-    rw last (drop-length xs ∙ sym (drop_all place xs past)))
-
-take_inside : (n : ℕ) (xs : List Float) → take (min n (length xs)) xs ≡ take n xs
-take_inside n xs =
-    by_test (leb n (length xs))
-    (λ yes. let same : min n (length xs) ≡ n = omega (arith, leb-true n (length xs) yes) in rw same)
-    (λ no.
-    let past : length xs ≤ n = omega (arith, leb-false n (length xs) no) in
-    let all_of : min n (length xs) ≡ length xs = omega arith in
-    rw all_of (take_all (length xs) xs (omega arith) ∙ sym (take_all n xs past)))
+    rw last (drop-length xs ∙ sym (drop_of_length-le xs past)))
 
 pub part_inside : (place n : ℕ) (xs : List Float) → take n (drop place xs) ≡ part (min place (length xs)) (min place (length xs) + min n (length xs - min place (length xs)) - min place (length xs)) xs
 part_inside place n xs =
     let from = min place (length xs) in
     let long : length (drop place xs) ≡ length xs - from = ap length (sym (drop_inside place xs)) ∙ length-drop from xs in
     let count : from + min n (length xs - from) - from ≡ min n (length (drop place xs)) = rw long (omega arith) in
-    rw (count, drop_inside place xs) (sym (take_inside n (drop place xs)))
+    rw (count, drop_inside place xs) (sym (take_min n (drop place xs)))
 
 -- so many values has a row, cut to what is lent
 pub row_has : (a : Result Answer Refusal) (facts : Facts) (fs values : List Float) (count : ℕ) → count ≡ row_length a facts (length fs) → RowStands a facts fs values → RowHas a values count

@@ -1,13 +1,14 @@
 -- Each way in which a step goes on: a call and the beginning of its line, values of a line, and the closing lines. Assumes nothing.
 use Prim.Native.Nat.{ℕ, ◌+◌, ◌-◌, ◌≤◌, ◌<◌, min}
 use mathlib.Core.Path.{◌≡◌, refl, sym, ◌∙◌, ap}
-use mathlib.Core.Bool.{true, false, true≢false}
+use mathlib.Core.Bool.{true, false, ◌&&◌, true≢false}
 use Rattle.std.proofs.Common.{Option, Some, None, Result, Ok, Err}
-use Rattle.std.specs.Prelude.{MatchOption}
-use mathlib.Core.List.{List, [], ◌++◌, append_assoc, append-nil}
+use Rattle.std.specs.Prelude.{MatchOption, IfSome}
+use mathlib.Core.List.{List, ◌++◌, append_assoc, append-nil}
 use native.Mathlib.Omega.{arith}
 use lib.ListN.{length, take, drop}
 use lib.Ieee.{Float}
+use lib.Dec.{leb}
 use borrow.Author.Tests.{le-leb}
 use Rattle.model.specs.Bytes.{all, part}
 use Rattle.model.specs.Framing as Framing
@@ -34,13 +35,14 @@ use Rattle.playback_parts.specs.declared.Form.{Form}
 use Rattle.playback_parts.specs.declared.Doing.{Doing}
 use Rattle.playback_parts.specs.declared.Playback.{Playback}
 use Rattle.playback.specs.declared.Wrote.{Wrote}
+use Rattle.playback.specs.declared.StepError.{StepError}
 use Rattle.playback_parts.specs.declared.facts.Facts.{Facts}
 use Rattle.playback_parts.specs.declared.parts.Part.{Part}
 use Rattle.playback_parts.specs.Facts.{place_of, CallFacts}
-use Rattle.playback_parts.specs.Parts.{part_ended, PartPut}
+use Rattle.playback_parts.specs.Parts.{part_ended, part_left, PartPut}
 use Rattle.playback_parts.specs.Forms.{answer_as, printed_from}
 use Rattle.playback_parts.proofs.FormLaws.{printed_end, printed_step}
-use Rattle.playback.specs.Steps.{remaining, remaining_of, values_held, makes_call, stage, steps_left, calls_now, place_next, CallDone, WrittenAs, doing_after, left_as, RowStands, CallBegun, Printed, incoming_of, clock_of, behind_part}
+use Rattle.playback.specs.Steps.{remaining, remaining_of, values_held, makes_call, stage, steps_left, calls_now, place_next, CallDone, WrittenAs, doing_after, left_as, RowStands, CallBegun, Printed, incoming_of, clock_of, behind_part, Step, PartDone, DoneAs}
 use Rattle.playback.proofs.AnswerKinds.{rows, samples, call_kind, answer_kind_law, answer_allowed}
 use Rattle.playback.proofs.Walks.{call_moves, stage_few, moved_less, part_inside}
 
@@ -189,10 +191,11 @@ module _ (c : Call) (r : Receiver) (fs : List Float) (us : List ℕ) (lent : Lis
           less = fewer;
         }
 
--- what comes after a part of a line's values, where it was matched
-pub behind_is : (next : Option ℕ) (again : ℕ → Doing) (d : Doing) → MatchOption next (d ≡ Doing.Call) (λ from. d ≡ again from) → d ≡ behind_part next again
-behind_is None again d is = is
-behind_is (Some from) again d is = is
+-- what comes after a part of a line's values, by each function that tells what is made of a place
+pub behind_is : (next : Option ℕ) (made : ℕ → Doing → Type 0) (d : Doing) → MatchOption next (d ≡ Doing.Call) (λ k. made k d)
+    → (again : ℕ → Doing) → ((k : ℕ) (e : Doing) → made k e → e ≡ again k) → d ≡ behind_part next again
+behind_is None made d is again tells = is
+behind_is (Some from) made d is again tells = tells from d is
 
 -- ---- other pieces: the receiver and what is lent stay
 
@@ -253,29 +256,56 @@ module _ (form : Form) (tape : List ℕ) (w : Playback) (fs : List Float) (us : 
   abbrev left_by : Part → (ℕ → Doing) → Wrote
   left_by p again = record { playback = record { receiver = w.receiver; place = w.place; doing = behind_part p.next again }; bytes = p.bytes }
 
-  module _ (from end : ℕ) (p : Part) where
-    pub samples_written : w.doing ≡ Doing.Samples from end → end ≤ length lent → PartPut lent from end text text' p
-        → WrittenAs form tape w fs us lent text (left_by p (λ k. Doing.Samples k end)) fs us lent text'
-    unfolding remaining
-    samples_written doing inside put = go p.next refl
-      where
-        go : (e : Option ℕ) → p.next ≡ e → WrittenAs form tape w fs us lent text (left_by p (λ k. Doing.Samples k end)) fs us lent text'
-        go None ended =
-            printed_written put.text (behind_part p.next (λ k. Doing.Samples k end)) (left_by p (λ k. Doing.Samples k end)) (record { put = put.put; behind = refl }) (prints_only (Doing.Samples from end) refl doing) (rw doing) (λ cs. rw (doing, put.line, ended) (append_assoc put.text [] (printed_from form (lent_of fs us) cs (state_of w.receiver fs us)))) (rw ended) (rw (doing, ended) (omega arith))
-        go (Some next) ended =
-            printed_written put.text (behind_part p.next (λ k. Doing.Samples k end)) (left_by p (λ k. Doing.Samples k end)) (record { put = put.put; behind = refl }) (prints_only (Doing.Samples from end) refl doing) (rw doing) (λ cs. rw (doing, put.line, ended) (append_assoc put.text (part_ended next end lent) (printed_from form (lent_of fs us) cs (state_of w.receiver fs us))))
-            (rw ended (both_and (le-leb next end (rw ended at put.inside)) (le-leb end (length lent) inside)))
-            (rw (doing, ended) (omega (arith, rw ended at put.inside, rw ended at put.further)))
+  -- a line's values are printed from a place on, up to `end`, and then the line's end
+  record PrintsValues (end : ℕ) (xs : List Float) (again : ℕ → Doing) : Type 0 where
+    quiet : (from : ℕ) → makes_call (again from) ≡ false
+    calls : (from : ℕ) (cs : List Call) → calls_now (again from) (call_at tape w.place) cs ≡ cs
+    stays : (from : ℕ) → place_next (again from) (call_at tape w.place) w.place ≡ w.place
+    lines : (from : ℕ) (cs : List Call) → from_here (again from) cs ≡ part_ended from end xs ++ printed_from form (lent_of fs us) cs (state_of w.receiver fs us)
+    held : (from : ℕ) → values_held (again from) fs lent ≡ (leb from end && leb end (length xs))
+    stages : (from : ℕ) → stage (again from) ≡ 5 + (end - from)
 
-    pub values_written : w.doing ≡ Doing.Values from end → end ≤ length fs → PartPut fs from end text text' p
-        → WrittenAs form tape w fs us lent text (left_by p (λ k. Doing.Values k end)) fs us lent text'
+  module _ (end : ℕ) (xs : List Float) (again : ℕ → Doing) (prints : PrintsValues end xs again) (from : ℕ) where
+    -- what comes behind a part, and the values that are left then
+    record BehindPart (next : Option ℕ) : Type 0 where
+      lines : (cs : List Call) → from_here (behind_part next again) cs ≡ part_left next end xs ++ printed_from form (lent_of fs us) cs (state_of w.receiver fs us)
+      held : values_held (behind_part next again) fs lent ≡ true
+      few : stage (behind_part next again) < 5 + (end - from)
+
+    behind_a_part : (next : Option ℕ) → end ≤ length xs → IfSome next (λ k. k ≤ end) → IfSome next (λ k. from < k) → BehindPart next
     unfolding remaining
-    values_written doing inside put = go p.next refl
-      where
-        go : (e : Option ℕ) → p.next ≡ e → WrittenAs form tape w fs us lent text (left_by p (λ k. Doing.Values k end)) fs us lent text'
-        go None ended =
-            printed_written put.text (behind_part p.next (λ k. Doing.Values k end)) (left_by p (λ k. Doing.Values k end)) (record { put = put.put; behind = refl }) (prints_only (Doing.Values from end) refl doing) (rw doing) (λ cs. rw (doing, put.line, ended) (append_assoc put.text [] (printed_from form (lent_of fs us) cs (state_of w.receiver fs us)))) (rw ended) (rw (doing, ended) (omega arith))
-        go (Some next) ended =
-            printed_written put.text (behind_part p.next (λ k. Doing.Values k end)) (left_by p (λ k. Doing.Values k end)) (record { put = put.put; behind = refl }) (prints_only (Doing.Values from end) refl doing) (rw doing) (λ cs. rw (doing, put.line, ended) (append_assoc put.text (part_ended next end fs) (printed_from form (lent_of fs us) cs (state_of w.receiver fs us))))
-            (rw ended (both_and (le-leb next end (rw ended at put.inside)) (le-leb end (length fs) inside)))
-            (rw (doing, ended) (omega (arith, rw ended at put.inside, rw ended at put.further)))
+    behind_a_part None inside low further = record { lines = λ cs. refl; held = refl; few = omega arith }
+    behind_a_part (Some next) inside low further =
+        record {
+          lines = prints.lines next;
+          held = rw (prints.held next) (both_and (le-leb next end low) (le-leb end (length xs) inside));
+          few = rw (prints.stages next) (omega (arith, low, further));
+        }
+
+    part_written : (p : Part) → w.doing ≡ again from → end ≤ length xs → PartPut xs from end text text' p → WrittenAs form tape w fs us lent text (left_by p again) fs us lent text'
+    part_written p doing inside put =
+        let behind = behind_a_part p.next inside put.inside put.further in
+        printed_written put.text (behind_part p.next again) (left_by p again) (record { put = put.put; behind = refl }) (prints_only (again from) (prints.quiet from) doing) (rw doing (prints.stays from))
+        (λ cs. rw (doing, prints.calls from cs, prints.lines from cs, put.line, behind.lines cs) (append_assoc put.text (part_left p.next end xs) (printed_from form (lent_of fs us) cs (state_of w.receiver fs us))))
+        behind.held (rw (doing, prints.stages from) behind.few)
+
+    part_done : (made : ℕ → Doing → Type 0) → ((k : ℕ) (d : Doing) → made k d → d ≡ again k) → w.doing ≡ again from → (r : Step)
+        → PartDone made w xs from end text r text' → DoneAs form tape w fs us lent text r fs us lent text'
+    part_done made tells doing (Ok (Some v)) put = rw (put.behind again tells) (part_written put.part doing put.inside put.put)
+    part_done made tells doing (Err StepError.NotHeld) refused = (rw doing (prints.held from ∙ refused.0), ((refl, refl, refl), refused.1))
+    part_done made tells doing (Err StepError.NoRoom) never = absurd never
+    part_done made tells doing (Err (StepError.Bad bad)) never = absurd never
+    part_done made tells doing (Ok None) never = absurd never
+
+  module _ (from end : ℕ) (made : ℕ → Doing → Type 0) where
+    pub samples_done : ((k : ℕ) (d : Doing) → made k d → d ≡ Doing.Samples k end) → w.doing ≡ Doing.Samples from end → (r : Step)
+        → PartDone made w lent from end text r text' → DoneAs form tape w fs us lent text r fs us lent text'
+    unfolding remaining
+    samples_done =
+        part_done end lent (λ k. Doing.Samples k end) (record { quiet = λ k. refl; calls = λ k cs. refl; stays = λ k. refl; lines = λ k cs. refl; held = λ k. refl; stages = λ k. refl }) from made
+
+    pub values_done : ((k : ℕ) (d : Doing) → made k d → d ≡ Doing.Values k end) → w.doing ≡ Doing.Values from end → (r : Step)
+        → PartDone made w fs from end text r text' → DoneAs form tape w fs us lent text r fs us lent text'
+    unfolding remaining
+    values_done =
+        part_done end fs (λ k. Doing.Values k end) (record { quiet = λ k. refl; calls = λ k cs. refl; stays = λ k. refl; lines = λ k cs. refl; held = λ k. refl; stages = λ k. refl }) from made

@@ -26,7 +26,8 @@ use Rattle.playback.specs.declared.Wrote.{Wrote}
 use Rattle.playback.specs.declared.StepError.{StepError}
 use Rattle.playback_parts.specs.declared.facts.Facts.{Facts}
 use Rattle.playback_parts.specs.Facts.{FactsOf}
-use Rattle.playback_parts.specs.Parts.{part_ended, TextPut}
+use Rattle.playback_parts.specs.declared.parts.Part.{Part}
+use Rattle.playback_parts.specs.Parts.{part_ended, TextPut, PartPut}
 use Rattle.playback_parts.specs.Forms.{answer_as, printed_from}
 
 -- ---- what is still to be printed
@@ -213,6 +214,21 @@ clock_of r = line 67 (clock_words r)
 abbrev pub behind_part : Option ℕ → (ℕ → Doing) → Doing
 behind_part None again = Doing.Call
 behind_part (Some from) again = again from
+
+-- a part of a line's values was printed, and what comes behind it is told by each function that tells what is made of a place
+pub record PartWritten (made : ℕ → Doing → Type 0) (w : Playback) (xs : List Float) (from end : ℕ) (text text' : List ℕ) (v : Wrote) : Type 0 where
+  pub part : Part
+  pub put : PartPut xs from end text text' part
+  pub inside : end ≤ length xs
+  pub behind : (again : ℕ → Doing) → ((k : ℕ) (d : Doing) → made k d → d ≡ again k)
+      → v ≡ record { playback = record { receiver = w.receiver; place = w.place; doing = behind_part part.next again }; bytes = part.bytes }
+
+abbrev pub PartDone : (ℕ → Doing → Type 0) → Playback → List Float → ℕ → ℕ → List ℕ → Step → List ℕ → Type 0
+PartDone made w xs from end text (Ok (Some v)) text' = PartWritten made w xs from end text text' v
+PartDone made w xs from end text (Err StepError.NotHeld) text' = ((leb from end && leb end (length xs)) ≡ false) × (text' ≡ text)
+PartDone made w xs from end text (Err StepError.NoRoom) text' = ⊥
+PartDone made w xs from end text (Err (StepError.Bad bad)) text' = ⊥
+PartDone made w xs from end text (Ok None) text' = ⊥
 
 -- a call was found at the place, and there is room for the beginning of its line
 pub record MakeReady (tape : List ℕ) (w : Playback) (found : Found) (facts : Facts) (text : List ℕ) : Type 0 where

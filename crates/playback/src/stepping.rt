@@ -1,10 +1,8 @@
 // A step of a replay.
 // Lent one by one: of a struct of slices each contract had to say that each reference is kept, and each loop that each length is.
-ghost use Rattle.std.specs.Prelude.{◌&&◌, ◌≡◌, ◌≤◌, length, leb};
-ghost use Rattle.model.specs.Framing as Framing;
-ghost use Rattle.model.specs.Replay.{channel_line};
-ghost use Rattle.receiver_state.specs.Report.{counters_in, report_of};
-ghost use Rattle.playback.specs.Steps.{doing_after, row_length, incoming_of, clock_of, CallBegun, Printed, MakeReady, DoneAs, StepDone};
+// That a text has room for a piece stays in the contracts, as in `playback_parts`.
+ghost use Rattle.std.specs.Prelude.{◌&&◌, ◌≡◌, ◌≤◌, length, leb, Ok, Some};
+ghost use Rattle.playback.specs.Steps.{doing_after, row_length, CallBegun, MakeReady, PartDone, DoneAs, StepDone};
 ghost use Rattle.playback_parts.specs.declared.Doing.TheVariants as Doing;
 ghost use Rattle.playback_parts.specs.declared.Form.TheVariants as Form;
 
@@ -16,14 +14,15 @@ use playback_parts::parts::put_part;
 use playback_parts::{Doing, Form, PIECE, Playback};
 use receiver_state::report::report_of;
 use receiver_state::{Answer, Answered};
-use replaying::acting::{NotMade, act};
+use replaying::acting::act;
 use replaying::printing::{Left, begin_line};
 use summary_lines::put_summary;
 use tape::Found;
 
 // ---- a call
 
-// What is printed behind the beginning of a call's line: values inside of what is lent.
+// What is printed behind the beginning of a call's line: values inside of what is lent. (How far a row's go is said here and in `row_length`:
+// one function for both would answer their place and their count, and `row_length` would drop the place.)
 fn doing_after(left: Left, facts: Facts, fs: &[f32]) -> Doing
     ensures { result ≡ doing_after left facts (length fs.now) }
 {
@@ -44,23 +43,18 @@ fn doing_after(left: Left, facts: Facts, fs: &[f32]) -> Doing
     }
 }
 
-// The beginning of a call's line, and where the replay is behind it.
+// The beginning of a call's line, and where the replay is behind it. (Answer and facts go in side by side, here and below: a struct of
+// both would be made at one place alone, and each use of them would name one field more.)
 fn begun_full(v: Answered, facts: Facts, fs: &[f32], text: &mut [u8]) -> Wrote
     requires { 170 ≤ length text.old }
     ensures { CallBegun Form.Full v facts fs.now text.old text.new result }
 {
-    let side = facts.side;
-    let next = facts.next;
-    let receiver = v.receiver;
-    let answer = v.answer;
-    let line = begin_line(text, side, answer);
-    let left = line.left;
-    let doing = doing_after(left, facts, fs);
+    let line = begin_line(text, facts.side, v.answer);
     Wrote {
         playback: Playback {
-            receiver,
-            place: next,
-            doing,
+            receiver: v.receiver,
+            place: facts.next,
+            doing: doing_after(line.left, facts, fs),
         },
         bytes: line.written,
     }
@@ -84,19 +78,14 @@ fn begun_summary(v: Answered, facts: Facts, fs: &[f32], text: &mut [u8]) -> Wrot
     requires { 170 ≤ length text.old }
     ensures { CallBegun Form.Summary v facts fs.now text.old text.new result }
 {
-    let side = facts.side;
-    let next = facts.next;
-    let receiver = v.receiver;
-    let answer = v.answer;
-    let values = row_length(answer, facts, fs);
-    let bytes = put_summary(text, side, answer, values);
+    let values = row_length(v.answer, facts, fs);
     Wrote {
         playback: Playback {
-            receiver,
-            place: next,
+            receiver: v.receiver,
+            place: facts.next,
             doing: Doing::Call,
         },
-        bytes,
+        bytes: put_summary(text, facts.side, v.answer, values),
     }
 }
 
@@ -125,63 +114,21 @@ fn made(
     requires { MakeReady tape.now w found facts text.old }
     ensures { DoneAs form tape.now w fs.old us.old samples.old text.old result fs.new us.new samples.new text.new }
 {
-    match act(w.receiver, fs, us, tape, found, samples) {
-        Ok(v) => Ok(Some(begun(v, facts, fs, text, form))),
-        // No call never comes, as the facts are those of one.
-        Err(NotMade::NoRoom | NotMade::NoCall) => Err(StepError::NoRoom),
-    }
+    // That no call was found never comes, as the facts are those of one.
+    let v = act(w.receiver, fs, us, tape, found, samples).map_err(|_| StepError::NoRoom)?;
+    Ok(Some(begun(v, facts, fs, text, form)))
 }
 
-// ---- the closing lines
+// ---- what prints without a call
 
-fn on(w: Playback, doing: Doing, bytes: usize) -> Wrote
-    ensures { result ≡ record { playback = record { receiver = w.receiver; place = w.place; doing = doing }; bytes = bytes } }
+// A step that wrote so many bytes, and by which nothing but what is printed next has changed.
+fn on(w: Playback, doing: Doing, bytes: usize) -> Step
+    ensures { result ≡ Ok (Some (record { playback = record { receiver = w.receiver; place = w.place; doing = doing }; bytes = bytes })) }
 {
-    let receiver = w.receiver;
-    Wrote {
-        playback: Playback {
-            receiver,
-            place: w.place,
-            doing,
-        },
+    Ok(Some(Wrote {
+        playback: Playback { doing, ..w },
         bytes,
-    }
-}
-
-fn line_a(w: Playback, text: &mut [u8]) -> Wrote
-    requires { 170 ≤ length text.old }
-    ensures { Printed w (channel_line Framing.A (counters_in (report_of w.receiver).a)) Doing.LineB text.old text.new result }
-{
-    let report = report_of(w.receiver);
-    let bytes = put_sound(text, Side::A, report.a);
-    on(w, Doing::LineB, bytes)
-}
-
-fn line_b(w: Playback, text: &mut [u8]) -> Wrote
-    requires { 170 ≤ length text.old }
-    ensures { Printed w (channel_line Framing.B (counters_in (report_of w.receiver).b)) Doing.LineI text.old text.new result }
-{
-    let report = report_of(w.receiver);
-    let bytes = put_sound(text, Side::B, report.b);
-    on(w, Doing::LineI, bytes)
-}
-
-fn line_i(w: Playback, text: &mut [u8]) -> Wrote
-    requires { 170 ≤ length text.old }
-    ensures { Printed w (incoming_of (report_of w.receiver)) Doing.LineC text.old text.new result }
-{
-    let report = report_of(w.receiver);
-    let bytes = put_incoming(text, report);
-    on(w, Doing::LineC, bytes)
-}
-
-fn line_c(w: Playback, text: &mut [u8]) -> Wrote
-    requires { 170 ≤ length text.old }
-    ensures { Printed w (clock_of (report_of w.receiver)) Doing.Done text.old text.new result }
-{
-    let report = report_of(w.receiver);
-    let bytes = put_times(text, report);
-    on(w, Doing::Done, bytes)
+    }))
 }
 
 // ---- values
@@ -190,6 +137,27 @@ fn held(values: &[f32], from: usize, end: usize) -> bool
     ensures { result ≡ (leb from end && leb end (length values.now)) }
 {
     from <= end && end <= values.len()
+}
+
+// Of a line's values as many as fit, or the line's end. Where values are left, the next thing is what `again` makes of their place.
+fn part_of<F: Fn(usize) -> Doing>(
+    w: Playback,
+    text: &mut [u8],
+    values: &[f32],
+    from: usize,
+    end: usize,
+    again: F,
+) -> Step
+    requires called { F.IsAlwaysCallable again }
+    requires room { 170 ≤ length text.old }
+    ensures { PartDone (F.post again) w values.now from end text.old result text.new }
+{
+    if !held(values, from, end) {
+        return Err(StepError::NotHeld);
+    }
+    let part = put_part(text, values, from, end);
+    let doing = part.next.map_or(Doing::Call, again);
+    on(w, doing, part.bytes)
 }
 
 // ---- a step
@@ -210,7 +178,11 @@ fn called(
     let found = tape::reader::call_at(tape, w.place);
     match facts_of(w.receiver.sizes, tape, found)? {
         Some(facts) => made(w, fs, us, tape, found, facts, samples, text, form),
-        None => Ok(Some(line_a(w, text))),
+        None => on(
+            w,
+            Doing::LineB,
+            put_sound(text, Side::A, report_of(w.receiver).a),
+        ),
     }
 }
 
@@ -232,28 +204,25 @@ pub fn step_as(
     match w.doing {
         Doing::Call => called(w, fs, us, tape, samples, text, form),
         Doing::Samples { from, end } => {
-            if !held(samples, from, end) {
-                return Err(StepError::NotHeld);
-            }
-            let part = put_part(text, samples, from, end);
-            let doing = part
-                .next
-                .map_or(Doing::Call, |from| Doing::Samples { from, end });
-            Ok(Some(on(w, doing, part.bytes)))
+            part_of(
+                w,
+                text,
+                samples,
+                from,
+                end,
+                |k| Doing::Samples { from: k, end },
+            )
         }
         Doing::Values { from, end } => {
-            if !held(fs, from, end) {
-                return Err(StepError::NotHeld);
-            }
-            let part = put_part(text, fs, from, end);
-            let doing = part
-                .next
-                .map_or(Doing::Call, |from| Doing::Values { from, end });
-            Ok(Some(on(w, doing, part.bytes)))
+            part_of(w, text, fs, from, end, |k| Doing::Values { from: k, end })
         }
-        Doing::LineB => Ok(Some(line_b(w, text))),
-        Doing::LineI => Ok(Some(line_i(w, text))),
-        Doing::LineC => Ok(Some(line_c(w, text))),
+        Doing::LineB => on(
+            w,
+            Doing::LineI,
+            put_sound(text, Side::B, report_of(w.receiver).b),
+        ),
+        Doing::LineI => on(w, Doing::LineC, put_incoming(text, report_of(w.receiver))),
+        Doing::LineC => on(w, Doing::Done, put_times(text, report_of(w.receiver))),
         Doing::Done => Ok(None),
     }
 }

@@ -55,6 +55,13 @@ steps_go_on base w₀ w w' first then whole win =
     let b = then whole win in
     (a.0 ++ b.0, steps_behind a.1 b.1)
 
+-- steps by a window as far as its pieces, and then the pieces
+pub pieces_go_on : {form : Form} {window : List ℕ} {last : Bool} {text text' : List ℕ} {r : Gathered} (w₀ w : Playback) {fs₀ fs fs' : List Float} {us₀ us us' : List ℕ} {samples₀ samples samples' : List Float}
+    → PiecesIn form window last (moment w fs us samples) text r (moment r.playback fs' us' samples') text'
+    → ((base : ℕ) → StepsOn form window last base (moment w₀ fs₀ us₀ samples₀) base (moment w fs us samples))
+    → (base : ℕ) → StepsOn form window last base (moment w₀ fs₀ us₀ samples₀) base (moment r.playback fs' us' samples')
+pieces_go_on {r = r} w₀ w pieces first base = steps_go_on base w₀ w r.playback (first base) (pieces_step_on pieces base)
+
 -- the steps by a window lead to where the replay goes on, or ended
 pub steps_lead_on : (form : Form) (window : List ℕ) (last : Bool) (p : Playing) (t : Gathered) (m : Moment) (r : Went) (fs : List Float) (us : List ℕ) (samples : List Float)
     → StepsOn form window last p.base m p.base (moment t.playback fs us samples)

@@ -90,7 +90,8 @@ fn write_through(
     }
 }
 
-// Where a replay goes on after a window of a file of so many bytes.
+// Where a replay goes on after a window of a file of so many bytes. (That a window has room for the longest call stays a fact, here
+// and below, as in `tape_files`.)
 fn went_by(p: Playing, t: Gathered, all: usize, window: &[u8], last: bool) -> Went
     requires { (4 * p.base + length window.now ≤ all) × (last ≡ false → 65540 ≤ length window.now) × ThroughIn window.now last p.playback t }
     ensures { Gone all p.base result × SameReplay p t result }
@@ -150,6 +151,7 @@ fn next_window(
     requires { (4 * p.base ≤ file.now.bytes) × (65540 ≤ length window.old) }
     ensures { Gone file.now.bytes p.base result × NextStepsTo form file.now (length window.old) p.base (moment p.playback fs.old us.old samples.old) result fs.new us.new samples.new × WentBegun result }
 {
+    // So it is known that the number of bytes, and with it the place of the window's first byte, fits.
     let all = file.bytes;
     let part = read_part(file, 4 * p.base, window)?;
     let read = &window[..part.count];

@@ -1,4 +1,5 @@
-// The beginning of a replay: the whole tape is checked, and then setup is made.
+// The beginning of a replay: the whole tape is checked, and then setup is made. (Areas, tape and text are lent one by one, and a text's
+// room for a piece stays in the contracts: a struct with them would hold a `&mut`, of which each contract had to say that it is kept.)
 #![tactic(auto)]
 
 pub mod limits;
@@ -13,7 +14,7 @@ ghost use Rattle.playback_opening.specs.Beginnings.{SetupBegun, BegunTo};
 
 use calls::Refusal;
 use playback_parts::{Doing, PIECE, Playback};
-use tape::Setup;
+use tape::{FIRST_CALL, Setup};
 
 // Why a replay does not begin.
 #[derive(Clone, Copy, PartialEq, Eq, Debug)]
@@ -40,7 +41,8 @@ pub fn put_bad_tape(text: &mut [u8], place: usize) -> usize
     lines::put_line(text, b'X', &[11, place as u64]).unwrap()
 }
 
-// Setup by what a tape says.
+// Setup by what a tape says. (No `map_err`, and none in `begin`: tried here, and no fact says that the text stays where the closure that
+// writes it is not called.)
 pub fn set_up(
     setup: Setup,
     fs: &[f32],
@@ -54,13 +56,14 @@ pub fn set_up(
         Err(why) => Err(NotBegun::Refused(put_refused(text, why))),
         Ok(receiver) => Ok(Playback {
             receiver,
-            place: 13,
+            place: FIRST_CALL,
             doing: Doing::Call,
         }),
     }
 }
 
-// The areas may hold anything. Only the u32 area is written.
+// The areas may hold anything. Only the u32 area is written. (The test of the text's room stands in each function that begins or refuses:
+// a function for it would be public for a test of one line, and `playback_windows::refuse_in` answers no Result that `?` could hand on.)
 pub fn begin(fs: &[f32], us: &mut [u32], tape: &[u8], text: &mut [u8]) -> Result<Playback, NotBegun>
     ensures { BegunTo (replay_over (lent_of fs.now us.old) tape.now) tape.now fs.now us.old text.old result us.new text.new }
 {

@@ -1,4 +1,4 @@
-// The replay of document 01: a tape of at most 65,536 bytes.
+// The replay of document 01: a tape of at most 65,536 bytes. (What is lent goes in slice by slice, as in `playback_opening`.)
 ghost use Rattle.model.specs.Replay.{replay_within};
 ghost use Rattle.receiver_state.specs.View.{lent_of};
 ghost use Rattle.playback_opening.specs.Beginnings.{BegunTo};
@@ -6,7 +6,7 @@ ghost use Rattle.playback_opening.specs.Beginnings.{BegunTo};
 use crate::{NotBegun, begin, put_bad_tape};
 use playback_parts::{PIECE, Playback};
 
-// A longer tape is refused at the place behind its first 16,384 words.
+// A longer tape is refused at the place behind its first 16,384 words. (The test of the text's room stands here for the reason at `begin`.)
 pub fn begin_limited(
     fs: &[f32],
     us: &mut [u32],

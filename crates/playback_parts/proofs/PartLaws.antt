@@ -1,11 +1,12 @@
 -- A part of a line's values, or the line's end. Assumes nothing.
-use Prim.Native.Nat.{ℕ, zero, suc, ◌+◌, ◌-◌, ◌*◌, ◌≤◌, ◌<◌}
+use Prim.Native.Nat.{ℕ, ◌+◌, ◌-◌, ◌*◌, ◌≤◌, ◌<◌}
 use mathlib.Core.Path.{◌≡◌, refl, sym, ◌∙◌, ap}
 use Rattle.std.proofs.Common.{Some, None}
 use mathlib.Core.List.{List, [], ◌∷◌, ◌++◌, map, append_assoc}
 use native.Mathlib.Omega.{arith}
 use lib.ListN.{length, take, drop, set, length-take, length-drop}
 use lib.Seq.{drop-drop}
+use Rattle.std.proofs.lemmas.List.{drop-take}
 use lib.Ieee.{Float}
 use Rattle.model.specs.Bytes.{part}
 use Rattle.model.specs.Replay.{hex_bits}
@@ -28,16 +29,6 @@ line_ended values from end entry same room =
       further = tt;
     }
 
-drop_take : (n k : ℕ) (xs : List Float) → drop n (take k xs) ≡ take (k - n) (drop n xs)
-drop_take zero k xs = let same : k - zero ≡ k = omega arith in rw same
-drop_take (suc n) zero xs = let none_left : zero - suc n ≡ zero = omega arith in rw none_left
-drop_take (suc n) (suc k) [] = sym (take_none (suc k - suc n))
-  where
-    take_none : (m : ℕ) → take {A = Float} m [] ≡ []
-    take_none zero = refl
-    take_none (suc m) = refl
-drop_take (suc n) (suc k) (x ∷ xs) = let same : suc k - suc n ≡ k - n = omega arith in rw same (drop_take n k xs)
-
 module _ (values : List Float) (from end : ℕ) (entry exit : List ℕ) (n : ℕ) (more : from < end) (inside : end ≤ length values) (room : 9 ≤ length entry)
     (written : ValuesWritten (part from (end - from) values) entry exit n) where
   abbrev here : List Float
@@ -48,8 +39,8 @@ module _ (values : List Float) (from end : ℕ) (entry exit : List ℕ) (n : ℕ
 
   behind : drop n here ≡ part (from + n) (end - (from + n)) values
   behind =
-      let count : end - from - n ≡ end - (from + n) = omega arith in
-      drop_take n (end - from) (drop from values) ∙ rw (drop-drop n from values, count)
+      let split : end - from ≡ n + (end - (from + n)) = omega (arith, written.most, here_length) in
+      rw split (drop-take n (end - (from + n)) (drop from values) ∙ rw (drop-drop n from values) refl)
 
   line_is : values_ended here ≡ spaced (map hex_bits (take n here)) ++ part_ended (from + n) end values
   line_is = ap (λ (xs : List ℕ). xs ++ (10 ∷ [])) (values_go_on n here) ∙ append_assoc (spaced (map hex_bits (take n here))) (spaced (map hex_bits (drop n here))) (10 ∷ []) ∙ rw behind

@@ -15,7 +15,7 @@ pub fn put_sound(text: &mut [u8], side: Side, s: SoundReport) -> usize
 {
     let line = lines::put_line(
         text,
-        lines::side_letter(side),
+        side.letter(),
         &[
             s.received,
             s.inserted,

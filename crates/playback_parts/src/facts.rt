@@ -26,10 +26,7 @@ pub struct Facts {
 fn stream_in(bytes: &[u8]) -> Stream
     ensures { model_stream result ≡ stream_in bytes.now }
 {
-    if bytes.len() < 4 {
-        return Stream::Other;
-    }
-    stream_of(bytes[3])
+    bytes.get(3).map_or(Stream::Other, |t| stream_of(*t))
 }
 
 // A channel and a row's place, for a stream.
@@ -91,28 +88,14 @@ fn call_facts(z: Sizes, tape: &[u8], placed: Placed) -> Facts
             samples: samples as usize,
             row: 0,
         },
-        Call::Reset { side } => Facts {
+        Call::Reset { side } | Call::Set { side, settings: _ } => Facts {
             side,
             next,
             samples: 0,
             row: 0,
         },
-        Call::Set { side, settings: _ } => Facts {
-            side,
-            next,
-            samples: 0,
-            row: 0,
-        },
-        Call::Probe(_) => of_clock(next),
-        Call::OneWay {
-            receive: _,
-            send: _,
-        } => of_clock(next),
-        Call::Depth {
-            samples: _,
-            counts: _,
-        } => of_clock(next),
-        Call::TransmitDepth { samples: _ } => of_clock(next),
+        Call::Probe(_) | Call::OneWay { .. } | Call::Depth { .. } | Call::TransmitDepth { .. } =>
+            of_clock(next),
     }
 }
 
@@ -121,8 +104,5 @@ pub fn facts_of(z: Sizes, tape: &[u8], found: Found) -> Result<Option<Facts>, Ba
     requires { Inside tape.now found }
     ensures { FactsOf (sizes_of z) (model_found tape.now found) result }
 {
-    match found? {
-        Some(placed) => Ok(Some(call_facts(z, tape, placed))),
-        None => Ok(None),
-    }
+    Ok(found?.map(|placed| call_facts(z, tape, placed)))
 }

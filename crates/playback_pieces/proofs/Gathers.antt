@@ -8,6 +8,7 @@ use lib.ListN.{length, take, drop, length-append, length-drop, take-append-drop}
 use lib.Seq.{take_all, take_at, drop_at, drop-drop, drop-length}
 use lib.Ieee.{Float}
 use Rattle.std.specs.Prelude.{Some, None, Ok, Err}
+use Rattle.std.specs.Result.{result_ok}
 use borrow.Rule.Slice.PartMut.{put_mid, post_of}
 use Rattle.model.specs.Bytes.{placed}
 use Rattle.playback_parts.specs.declared.Form.{Form}
@@ -126,6 +127,16 @@ module _ (form : Form) (tape : List ℕ) (p : Wrote) (fs : List Float) (us : Lis
   ended_there (Err (StepError.Bad bad)) none done =
       let u = done.2 in
       (record { step = Err (StepError.Bad bad); writes_nothing = tt; done = (done.0, done.1, ((refl, refl, refl), refl)) }, u.0.0, u.0.1, u.0.2, kept u.1)
+
+-- by what is left of a step behind `ok`: a step that wrote, or one that writes nothing
+pub step_wrote : (r : Step) (v : Wrote) → result_ok r ≡ Some (Some v) → r ≡ Ok (Some v)
+step_wrote (Ok o) v is = cc
+step_wrote (Err why) v is = absurd (cc)
+
+pub step_quiet : (r : Step) → ((v : Wrote) → result_ok r ≡ Some (Some v) → ⊥) → WritesNothing r
+step_quiet (Ok (Some v)) never = never v refl
+step_quiet (Ok None) never = tt
+step_quiet (Err why) never = tt
 
 -- ---- both together
 

@@ -52,9 +52,7 @@ fn one(
     ensures { Further form tape.now p fs.old us.old samples.old text.old result fs.new us.new samples.new text.new }
 {
     let at = p.bytes;
-    let Ok(Some(v)) = step_as(p.playback, fs, us, tape, samples, &mut text[at..], form) else {
-        return None;
-    };
+    let v = step_as(p.playback, fs, us, tape, samples, &mut text[at..], form).ok()??;
     Some(Wrote {
         bytes: at + v.bytes,
         ..v
@@ -88,6 +86,7 @@ pub fn pieces(
         playback: w,
         bytes: 0,
     };
+    // No `for`: how many bytes a step takes is known only once it is made.
     while PIECE <= text.len() - p.bytes {
         if !comes_before(p.playback, until) {
             return stopped(p, Stop::Far);

@@ -18,7 +18,7 @@ use tape::Setup;
 use tape_windows::{LONGEST_CALL, has_words};
 
 // No place lies behind it.
-const EVERY_PLACE: usize = 0xffff_ffff_ffff_ffff;
+const EVERY_PLACE: usize = usize::MAX;
 
 // Whether a call comes next, or the tape's end.
 fn makes_call(doing: Doing) -> bool
@@ -54,11 +54,7 @@ fn reach(window: &[u8], last: bool) -> usize
     if last {
         return EVERY_PLACE;
     }
-    let whole = window.len() / 4;
-    if whole < LONGEST_CALL {
-        return 0;
-    }
-    whole - (LONGEST_CALL - 1)
+    (window.len() / 4 + 1).saturating_sub(LONGEST_CALL)
 }
 
 // As many pieces of what is printed of the tape as the text has room for, at its front. They stop before a call that the window may
@@ -89,7 +85,8 @@ pub fn moved_on(w: Playback, words: usize) -> Playback
     }
 }
 
-// The beginning, by the setup that stands at the tape's front, once its calls are accepted. Only the u32 area is written.
+// The beginning, by the setup that stands at the tape's front, once its calls are accepted. Only the u32 area is written. (The test of the
+// text's room stands here and below for the reason at `playback_opening::begin`.)
 pub fn begin_in(
     setup: Setup,
     fs: &[f32],

@@ -13,8 +13,8 @@ const STDERR_FILENO: i32 = 2;
 // Samples in a minute of sound.
 const MINUTE: u64 = 2880000;
 
-// Standard error, by its descriptor: the runtime's handle of it would be asked of each caller that tells of a window. A piece
-// that cannot be written is left out.
+// Standard error. A piece that cannot be written is left out. (By its descriptor: to hold the runtime's handle, `begin` would take a
+// `Stderr` where it takes whatever may be a terminal, which asks more of its callers.)
 #[derive(Clone, Copy)]
 struct Errors;
 

@@ -2,10 +2,10 @@
 use mathlib.Core.Path.{◌≡◌, refl, ◌∙◌, ap}
 use mathlib.Core.Bool.{true, false}
 use mathlib.Core.List.{List, [], ◌∷◌, ◌++◌, append-nil, append_assoc}
-use Prim.Native.Nat.{ℕ, suc, ◌+◌, ◌≤◌, ◌<◌}
+use Prim.Native.Nat.{ℕ, zero, suc, ◌+◌, ◌≤◌, ◌<◌}
 use native.Mathlib.Omega.{arith}
 use native.Mathlib.Numerals.{add-one}
-use lib.ListN.{length, take, drop, get_or, drop_of_length-le}
+use lib.ListN.{length, take, drop, get_or, set, drop_of_length-le}
 use lib.Seq.{take-suc, drop-cons}
 use lib.Ieee.{Float}
 use Rattle.model.specs.Floats.{finite}
@@ -49,3 +49,13 @@ whole_prefix (x ∷ xs) e =
     (λ not-Finite.
     let none : 0 ≡ suc (length xs) = rw not-Finite at e in
     absurd (omega arith))
+
+-- ---- a loop that stores them in front
+
+-- one value more
+pub front_more : (j : ℕ) (values entry : List Float) (d : Float) → j < length values → j < length entry
+    → set (take j values ++ drop j entry) j (get_or values j d) ≡ take (suc j) values ++ drop (suc j) entry
+front_more j [] entry d h fits = absurd (omega arith)
+front_more j (v ∷ values) [] d h fits = absurd (omega arith)
+front_more zero (v ∷ values) (x ∷ entry) d h fits = refl
+front_more (suc j) (v ∷ values) (x ∷ entry) d h fits = ap (λ (zs : List Float). v ∷ zs) (front_more j values entry d (omega arith) (omega arith))

@@ -3,22 +3,24 @@ use Rattle.std.proofs.Common.{Some, None}
 use mathlib.Core.Path.{◌≡◌, refl, sym, ◌∙◌, ap}
 use mathlib.Core.Bool.{false, ◌&&◌}
 use mathlib.Core.Option.{Option, none, some}
-use mathlib.Core.List.{List, ◌++◌, append_assoc}
-use Prim.Native.Nat.{ℕ, ◌+◌, ◌*◌, ◌/◌, ◌≤◌, ◌<◌}
+use mathlib.Core.List.{List, [], ◌++◌, map, append_assoc, append-nil}
+use Prim.Native.Nat.{ℕ, ◌+◌, ◌-◌, ◌*◌, ◌≤◌, ◌<◌}
 use native.Mathlib.Omega.{arith}
-use lib.ListN.{length, take, drop, replicate, take-append-drop, length-replicate}
-use lib.Seq.{take_at, take-append-le, drop-append-le, length-take-le}
+use lib.ListN.{length, length-map, take, drop, replicate, take-append-drop, length-replicate, length-drop, drop_of_length-le}
+use lib.Seq.{take_at, take_all, take-append-le, drop-append-le, drop-drop, length-take-le}
 use lib.Dec.{eqb, ltb}
 use lib.Ieee.{Float}
+use borrow.Rule.Slice.PartMut.{put_mid}
 use borrow.Author.Tests.{eqb-true, eq-eqb, ne_eqb, ltb-true, ltb-false, le-leb, lt-leb}
 use Rattle.model.specs.Bytes.{placed}
-use Rattle.model.specs.Row.{Chunk, Row, floats_of, finite_prefix, complete, row_for, open_row, store_all, store_some, store_chunk}
+use Rattle.model.specs.Row as Row
+use Rattle.model.specs.Row.{Row, finite_prefix, complete, row_for, open_row, store_all, store_some, store_chunk}
 use Rattle.model.proofs.BoolLaws.{by_test, cond_keeps, second_of_both}
 use Rattle.model.proofs.ListLaws.{placed_length}
+use Rattle.reassembler.specs.declared.Chunk.{Chunk}
 use Rattle.reassembler.specs.declared.OpenRow.{OpenRow}
 use Rattle.reassembler.specs.Requires.{RowKept, Storable}
-use Rattle.reassembler.specs.Rows.{chunk_of, open_of, counted_row, StoredPrefix, PushedAs}
-use Rattle.reassembler.proofs.FloatBytes.{length_floats_of}
+use Rattle.reassembler.specs.Rows.{value_of, chunk_of, open_of, counted_row, StoredPrefix, PushedAs}
 use Rattle.reassembler.proofs.Prefix.{prefix_length, whole_prefix}
 
 module _ {ℓ} {A : Type ℓ} where
@@ -43,53 +45,70 @@ module _ {ℓ} {A : Type ℓ} where
 
 -- ---- the row that a chunk goes to
 
-pub row_for_total : (c : Chunk) (r : Option Row) → (row_for c r).total ≡ c.total
+pub row_for_total : (c : Row.Chunk) (r : Option Row) → (row_for c r).total ≡ c.total
 unfolding row_for open_row
 row_for_total c none = refl
 row_for_total c (some r) =
     cond_keeps (λ (x : Row). x.total ≡ c.total) (eqb r.number c.number && eqb r.total c.total) r (open_row c)
     (λ same. eqb-true _ _ (second_of_both (eqb r.number c.number) _ same)) (λ other. refl)
 
-pub row_for_filled : (c : Chunk) (r : Option Row) (room : ℕ) → 1 ≤ c.total → RowKept r room → (row_for c r).filled < 2 * (row_for c r).total
+pub row_for_filled : (c : Row.Chunk) (r : Option Row) (room : ℕ) → 1 ≤ c.total → RowKept r room → (row_for c r).filled < 2 * (row_for c r).total
 unfolding row_for open_row
 row_for_filled c none room some_bins kept = omega arith
 row_for_filled c (some r) room some_bins kept =
     cond_keeps (λ (x : Row). x.filled < 2 * x.total) (eqb r.number c.number && eqb r.total c.total) r (open_row c)
     (λ same. kept.1) (λ other. omega arith)
 
+-- ---- a part written in front
+
+-- lent to the end, and put back
+pub end_written : (at : ℕ) (ys xs : List Float) → length ys + at ≤ length xs → put_mid at (length xs - at) xs (ys ++ drop (length ys) (take (length xs - at) (drop at xs))) ≡ placed at ys xs
+unfolding placed
+end_written at ys xs fits =
+    let rest : take (length xs - at) (drop at xs) ≡ drop at xs = take_all (length xs - at) (drop at xs) (simp length-drop (omega arith)) in
+    let none : drop (length xs - at) (drop at xs) ≡ [] = drop_of_length-le (drop at xs) {i = length xs - at} (simp length-drop (omega arith)) in
+    rw (rest, none, append-nil, drop-drop)
+
 -- ---- values stored in a row that is not done
 
-module _ (r : OpenRow) (entry exit : List Float) (first : ℕ) (bytes : List ℕ) (n : ℕ)
-    (h : Storable r.total_bins r.filled (length entry) first (length bytes))
-    (not_done : r.done ≡ false) (s : StoredPrefix first (floats_of bytes) entry exit n) where
-  values_stored : take r.total_bins exit ≡ placed first (finite_prefix (floats_of bytes)) (take r.total_bins entry)
+module _ (r : OpenRow) (entry to : List Float) (c : Chunk) (n : ℕ)
+    (h : Storable r.total_bins r.filled (length entry) c.first (length c.values.now))
+    (not_done : r.done ≡ false) (s : StoredPrefix (map value_of c.values.now) (take (length entry - c.first) (drop c.first entry)) to n) where
+  abbrev values : List Float
+  values = map value_of c.values.now
+
+  abbrev exit : List Float
+  exit = put_mid c.first (length entry - c.first) entry to
+
+  as_many : length values ≡ length c.values.now
+  as_many = length-map c.values.now value_of
+
+  stored : exit ≡ placed c.first (finite_prefix values) entry
+  stored = rw s.stored (end_written c.first (finite_prefix values) entry (omega (arith, prefix_length values, as_many, h.inside, h.fits)))
+
+  values_stored : take r.total_bins exit ≡ placed c.first (finite_prefix values) (take r.total_bins entry)
   values_stored =
-      ap (λ (xs : List Float). take r.total_bins xs) s.stored
-      ∙ take_placed r.total_bins first (finite_prefix (floats_of bytes)) entry (omega (arith, prefix_length (floats_of bytes), length_floats_of bytes, h.inside)) h.fits
+      ap (λ (xs : List Float). take r.total_bins xs) stored
+      ∙ take_placed r.total_bins c.first (finite_prefix values) entry (omega (arith, prefix_length values, as_many, h.inside)) h.fits
 
   as_long : length exit ≡ length entry
-  as_long =
-      ap length s.stored
-      ∙ placed_length first (finite_prefix (floats_of bytes)) entry (omega (arith, prefix_length (floats_of bytes), length_floats_of bytes, h.inside, h.fits))
+  as_long = ap length stored ∙ placed_length c.first (finite_prefix values) entry (omega (arith, prefix_length values, as_many, h.inside, h.fits))
 
-  pub some_stored : (n ≡ length bytes / 4 → ⊥)
-      → PushedAs (store_chunk (chunk_of 0 0 first bytes) (open_of r entry)) (record { row = Some r; completed = None }) exit
+  pub some_stored : (n ≡ length c.values.now → ⊥) → PushedAs (store_chunk (chunk_of c) (open_of r entry)) (record { row = Some r; completed = None }) exit
   unfolding store_chunk store_some
   some_stored fewer =
-      let differ : eqb (length (finite_prefix (floats_of bytes))) (length (floats_of bytes)) ≡ false =
-      ne_eqb _ _ (λ e. fewer (s.count ∙ e ∙ length_floats_of bytes)) in
+      let differ : eqb (length (finite_prefix values)) (length values) ≡ false = ne_eqb _ _ (λ e. fewer (s.count ∙ e ∙ as_many)) in
       rw (not_done, differ) (record { row = rw values_stored; completed = refl; inside = tt })
 
-  pub all_stored : n ≡ length bytes / 4 → PushedAs (store_chunk (chunk_of 0 0 first bytes) (open_of r entry)) (counted_row r (length bytes / 4)) exit
+  pub all_stored : n ≡ length c.values.now → PushedAs (store_chunk (chunk_of c) (open_of r entry)) (counted_row r (length c.values.now)) exit
   unfolding store_chunk store_all complete
   all_stored whole =
-      let same : length (finite_prefix (floats_of bytes)) ≡ length (floats_of bytes) = sym s.count ∙ whole ∙ sym (length_floats_of bytes) in
-      let here : take r.total_bins exit ≡ placed first (floats_of bytes) (take r.total_bins entry) =
-      rw (whole_prefix (floats_of bytes) same) at values_stored in
-      by_test (ltb (r.filled + length bytes / 4) r.total_bins)
+      let same : length (finite_prefix values) ≡ length values = sym s.count ∙ whole ∙ sym as_many in
+      let here : take r.total_bins exit ≡ placed c.first values (take r.total_bins entry) = rw (whole_prefix values same) at values_stored in
+      by_test (ltb (r.filled + length c.values.now) r.total_bins)
       (λ below.
-      rw (not_done, eq-eqb _ _ same, below, length_floats_of bytes, lt-leb r.total_bins (r.filled + length bytes / 4) (ltb-true _ _ below))
+      rw (not_done, eq-eqb _ _ same, below, as_many, lt-leb r.total_bins (r.filled + length c.values.now) (ltb-true _ _ below))
       (record { row = rw here; completed = refl; inside = tt }))
       (λ full.
-      rw (not_done, eq-eqb _ _ same, full, length_floats_of bytes, le-leb r.total_bins (r.filled + length bytes / 4) (ltb-false _ _ full))
+      rw (not_done, eq-eqb _ _ same, full, as_many, le-leb r.total_bins (r.filled + length c.values.now) (ltb-false _ _ full))
       (record { row = rw here; completed = rw here; inside = (omega (arith, h.filled_below), omega (arith, h.fits, as_long)) }))

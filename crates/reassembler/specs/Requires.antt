@@ -1,6 +1,6 @@
 -- What the functions of rows take: what a held row and the receiver's questions leave. Assumes nothing.
 use Rattle.std.proofs.Math.Option.{Option, none, some}
-use Rattle.std.specs.Prelude.{List, ℕ, ◌+◌, ◌*◌, ◌/◌, ◌≤◌, ◌<◌, length}
+use Rattle.std.specs.Prelude.{List, ℕ, ◌+◌, ◌*◌, ◌≤◌, ◌<◌, length}
 use Rattle.model.specs.Row.{Row, chunk_total}
 
 -- of a row that is there: its values fit, and filled bins stay below twice the total
@@ -13,8 +13,8 @@ pub record PushFits (row : Option Row) (room : ℕ) (payload : List ℕ) : Type 
   pub kept : RowKept row room
   pub allowed : 6 ≤ length payload → chunk_total payload ≤ room
 
--- a row whose values fit, and data whose values lie inside it
-pub record Storable (total filled room first bytes : ℕ) : Type 0 where
+-- a row whose values fit, and so many values that lie inside it
+pub record Storable (total filled room first values : ℕ) : Type 0 where
   pub fits : total ≤ room
   pub filled_below : filled < 2 * total
-  pub inside : first + bytes / 4 ≤ total
+  pub inside : first + values ≤ total

@@ -3,16 +3,16 @@
 // a lent slice. A row is there once a chunk was stored: a receiver begins with none.
 #![tactic(auto)]
 
-ghost use Rattle.std.specs.Prelude.{◌≡◌, [], ◌+◌, ◌/◌, ◌≤◌, ◌<◌, length};
-ghost use Rattle.model.specs.Bytes.{little_endian, part};
-ghost use Rattle.model.specs.Floats.{from_bits};
-ghost use Rattle.model.specs.Row.{floats_of, well_formed, open_row, row_for, store_chunk, push_chunk};
+ghost use Rattle.std.specs.Prelude.{◌≡◌, ◌+◌, ◌≤◌, ◌<◌, length, map};
+ghost use Rattle.model.specs.Row.{open_row, row_for, store_chunk, push_chunk};
 ghost use Rattle.reassembler.specs.Requires.{Storable, PushFits};
-ghost use Rattle.reassembler.specs.Rows.{chunk_of, open_of, row_of, counted_row, StoredPrefix, PushedAs};
+ghost use Rattle.reassembler.specs.Rows.{value_of, chunk_of, open_of, row_of, counted_row, ChunkIn, StoredPrefix, PushedAs};
 
 use udp_framing::big_endian::BigEndian;
 
 // A row that chunks are stored in. `filled` counts overlaps again.
+// `done` is one of a receiver's words, and a state that is handed in may have it at odds with `filled`: the third question
+// asks that, so it is no method here.
 #[derive(Clone, Copy, PartialEq, Eq, Debug)]
 pub struct OpenRow {
     pub row_seq: u16,
@@ -28,77 +28,87 @@ pub struct Pushed {
     pub completed: Option<usize>,
 }
 
+// What a payload says of a row: its number, its total of bins, the first bin of the values, and these as they come.
+#[derive(Clone, Copy)]
+struct Chunk<'a> {
+    row_seq: u16,
+    total_bins: usize,
+    first: usize,
+    values: &'a [[u8; 4]],
+}
+
 // Feeds one chunk, the bytes after the media header. A new row number or total opens a zeroed row; a done row ignores the
 // chunk. At a value that is not finite the earlier ones remain and nothing is counted.
 pub fn push_chunk(row: Option<OpenRow>, buf: &mut [f32], payload: &[u8]) -> Pushed
     requires { PushFits (row_of row buf.old) (length buf.old) payload.now }
     ensures { PushedAs (push_chunk payload.now (row_of row buf.old)) result buf.new }
 {
-    if !is_well_formed(payload) {
+    let Some(chunk) = chunk_in(payload) else {
         return Pushed {
             row,
             completed: None,
         };
-    }
-    let row_seq = u16::read_from(payload, 0);
-    let total_bins = u16::read_from(payload, 2) as usize;
-    let bin_offset = u16::read_from(payload, 4) as usize;
-    let open = row_for(row, buf, row_seq, total_bins);
-    store_chunk(open, buf, bin_offset, &payload[6..])
+    };
+    let open = row_for(row, buf, chunk);
+    store_chunk(open, buf, chunk)
 }
 
-// Not ignored: 6 bytes or more, a total that is not 0, whole values, and all of them inside the total.
-fn is_well_formed(payload: &[u8]) -> bool
-    ensures { result ≡ well_formed payload.now }
+// The chunk of a payload that is not ignored: 6 bytes or more, a total that is not 0, whole values, and all of them inside
+// the total.
+fn chunk_in(payload: &[u8]) -> Option<Chunk<'_>>
+    ensures { ChunkIn payload.now result }
 {
     if payload.len() < 6 {
-        return false;
+        return None;
     }
     let total_bins = u16::read_from(payload, 2) as usize;
-    let bin_offset = u16::read_from(payload, 4) as usize;
-    let left = payload.len() - 6;
-    total_bins != 0 && left % 4 == 0 && bin_offset + left / 4 <= total_bins
+    let first = u16::read_from(payload, 4) as usize;
+    let (values, rest) = payload[6..].as_chunks::<4>();
+    if total_bins == 0 || !rest.is_empty() || total_bins < first + values.len() {
+        return None;
+    }
+    let row_seq = u16::read_from(payload, 0);
+    Some(Chunk {
+        row_seq,
+        total_bins,
+        first,
+        values,
+    })
 }
 
 // The row that a chunk goes to: the open one, or where the number or the total is another, a zeroed one.
-fn row_for(row: Option<OpenRow>, buf: &mut [f32], row_seq: u16, total_bins: usize) -> OpenRow
-    requires { total_bins ≤ length buf.old }
-    ensures { open_of result buf.new ≡ row_for (chunk_of row_seq total_bins 0 []) (row_of row buf.old) }
+fn row_for(row: Option<OpenRow>, buf: &mut [f32], chunk: Chunk<'_>) -> OpenRow
+    requires { chunk.total_bins ≤ length buf.old }
+    ensures { open_of result buf.new ≡ row_for (chunk_of chunk.entry) (row_of row buf.old) }
 {
     match row {
-        Some(open) if open.row_seq == row_seq && open.total_bins == total_bins => open,
-        _ => open_row(buf, row_seq, total_bins),
+        Some(open) if open.row_seq == chunk.row_seq && open.total_bins == chunk.total_bins => open,
+        _ => open_row(buf, chunk),
     }
 }
 
 // A zeroed row.
-fn open_row(buf: &mut [f32], row_seq: u16, total_bins: usize) -> OpenRow
-    requires { total_bins ≤ length buf.old }
-    ensures { open_of result buf.new ≡ open_row (chunk_of row_seq total_bins 0 []) }
+fn open_row(buf: &mut [f32], chunk: Chunk<'_>) -> OpenRow
+    requires { chunk.total_bins ≤ length buf.old }
+    ensures { open_of result buf.new ≡ open_row (chunk_of chunk.entry) }
 {
+    let total_bins = chunk.total_bins;
     areas::fill(buf, 0, total_bins, 0.0);
     OpenRow {
-        row_seq,
+        row_seq: chunk.row_seq,
         total_bins,
         filled: 0,
         done: false,
     }
 }
 
-// Stores a chunk's values in its row from `first` on. Filled bins at the total or above complete the row.
-fn store_chunk(row: OpenRow, buf: &mut [f32], first: usize, bytes: &[u8]) -> Pushed
-    requires { Storable row.total_bins row.filled (length buf.old) first (length bytes.now) }
-    ensures { PushedAs (store_chunk (chunk_of 0 0 first bytes.now) (open_of row buf.old)) result buf.new }
+// Stores a chunk's values in its row. Filled bins at the total or above complete the row.
+fn store_chunk(row: OpenRow, buf: &mut [f32], chunk: Chunk<'_>) -> Pushed
+    requires { Storable row.total_bins row.filled (length buf.old) chunk.first (length chunk.values.now) }
+    ensures { PushedAs (store_chunk (chunk_of chunk.entry) (open_of row buf.old)) result buf.new }
 {
-    if row.done {
-        return Pushed {
-            row: Some(row),
-            completed: None,
-        };
-    }
-    let n = bytes.len() / 4;
-    let stored = store_finite(buf, first, bytes);
-    if stored != n {
+    let n = chunk.values.len();
+    if row.done || store_finite(&mut buf[chunk.first..], chunk.values) != n {
         return Pushed {
             row: Some(row),
             completed: None,
@@ -112,49 +122,30 @@ fn count_filled(row: OpenRow, n: usize) -> Pushed
     requires { row.filled + n < 18446744073709551616 }
     ensures { result ≡ counted_row row n }
 {
-    let total_bins = row.total_bins;
     let filled = row.filled + n;
-    if filled < total_bins {
-        return Pushed {
-            row: Some(OpenRow {
-                filled,
-                done: false,
-                ..row
-            }),
-            completed: None,
-        };
-    }
+    let done = filled >= row.total_bins;
     Pushed {
         row: Some(OpenRow {
             filled,
-            done: true,
+            done,
             ..row
         }),
-        completed: Some(total_bins),
+        completed: done.then_some(row.total_bins),
     }
 }
 
-// Stores the values up to the first that is not finite. The answer is how many were stored.
-fn store_finite(buf: &mut [f32], first: usize, bytes: &[u8]) -> usize
-    requires { first + length bytes.now / 4 ≤ length buf.old }
-    ensures { StoredPrefix first (floats_of bytes.now) buf.old buf.new result }
+// Stores the values, each a little-endian f32, up to the first that is not finite. The answer is how many were stored.
+// No `zip` of the two slices: an invariant cannot speak of what is written through one.
+fn store_finite(to: &mut [f32], values: &[[u8; 4]]) -> usize
+    requires { length values.now ≤ length to.old }
+    ensures { StoredPrefix (map value_of values.now) to.old to.new result }
 {
-    let n = bytes.len() / 4;
-    for j in 0..n {
-        let v = read_f32(bytes, 4 * j);
+    for (j, four) in values.iter().enumerate() {
+        let v = floats::from_bits(u32::from_le_bytes(*four));
         if !floats::is_finite(v) {
             return j;
         }
-        buf[first + j] = v;
+        to[j] = v;
     }
-    n
-}
-
-// The little-endian f32 of four bytes.
-fn read_f32(bytes: &[u8], at: usize) -> f32
-    requires { at + 4 ≤ length bytes.now }
-    ensures { result ≡ from_bits (little_endian (part at 4 bytes.now)) }
-{
-    let four = [bytes[at], bytes[at + 1], bytes[at + 2], bytes[at + 3]];
-    floats::from_bits(u32::from_le_bytes(four))
+    values.len()
 }

@@ -8,7 +8,7 @@ ghost use Rattle.receiver.specs.Promises.{Worked};
 
 use calls::{DepthCounts, ProbeTimes, Refusal};
 use receiver_state::asking::asked;
-use receiver_state::counted::{answered, count_call, with_clock};
+use receiver_state::counted::{accepted, answered, with_clock};
 use receiver_state::{Answer, Answered, Receiver};
 
 // A probe's work. (State and areas go in one by one, as in every call: the state is a value, and the memory is the caller's.)
@@ -21,7 +21,7 @@ fn probed(r: Receiver, fs: &[f32], us: &[u32], t: ProbeTimes) -> Result<(Receive
         return Err(Refusal::Range);
     }
     let clock = r.clock.record_probe(measured.offset, measured.rtt);
-    Ok((count_call(with_clock(r, clock)), Answer::Accepted))
+    Ok(accepted(with_clock(r, clock)))
 }
 
 // A one-way time's work.
@@ -36,7 +36,7 @@ fn timed(
 {
     asked(r, fs, us)?;
     let clock = r.clock.record_audio_one_way(receive, send);
-    Ok((count_call(with_clock(r, clock)), Answer::Accepted))
+    Ok(accepted(with_clock(r, clock)))
 }
 
 // A depth's work.
@@ -54,7 +54,7 @@ fn deepened(
         return Err(Refusal::Range);
     }
     let clock = r.clock.publish_jitter(samples, counts);
-    Ok((count_call(with_clock(r, clock)), Answer::Accepted))
+    Ok(accepted(with_clock(r, clock)))
 }
 
 // A transmit depth's work.
@@ -71,7 +71,7 @@ fn transmitted(
         return Err(Refusal::Range);
     }
     let clock = r.clock.note_tx_ring(samples);
-    Ok((count_call(with_clock(r, clock)), Answer::Accepted))
+    Ok(accepted(with_clock(r, clock)))
 }
 
 // A clock-offset probe.

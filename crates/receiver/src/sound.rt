@@ -1,4 +1,5 @@
 // A play.
+// State, areas and output go in one by one: a struct of them would need a clause on each lent slice's reference in each contract.
 ghost use Rattle.model.specs.Receiver.{play};
 ghost use Rattle.receiver_state.specs.Fields.{answered};
 ghost use Rattle.receiver.specs.Promises.{PlayedOut};
@@ -25,8 +26,7 @@ fn played(
         return Err(Refusal::Range);
     }
     let begin = starts(AllowedSizes { sizes: r.sizes }, side);
-    let before = channel_of(r, side);
-    let played = before.play(
+    let played = channel_of(r, side).play(
         r.sizes,
         &mut fs[begin.floats..],
         &mut us[begin.words..],

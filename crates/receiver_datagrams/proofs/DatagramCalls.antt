@@ -1,5 +1,6 @@
 -- A datagram that questions 1 to 4 let through: its own questions, its header's counts, and its stream's work. Assumes nothing.
 use Rattle.std.proofs.Common.{None, Some, Ok, Err}
+use Rattle.std.specs.Prelude.{Option, MatchOption}
 use mathlib.Core.Path.{◌≡◌, refl, sym, ◌∙◌, ap}
 use mathlib.Core.Bool.{true}
 use mathlib.Core.Option.{none, some}
@@ -12,7 +13,7 @@ use lib.Dec.{leb, ltb}
 use lib.Ieee.{Float}
 use mir.Val.{Fits}
 use mir.Syntax.{w8}
-use borrow.Author.Tests.{le-leb, lt-leb, lt-ltb, leb-true, leb-false, ltb-true, ltb-false}
+use borrow.Author.Tests.{le-leb, lt-leb, lt-ltb, leb-true, leb-false, ltb-false}
 use Rattle.model.specs.Bytes.{all}
 use Rattle.model.specs.Sizes as Sizing
 use Rattle.model.specs.Framing as Framing
@@ -40,6 +41,7 @@ use Rattle.udp.specs.Views.{counts_of}
 use Rattle.reassembler.specs.Rows.{completed_of}
 use Rattle.udp.proofs.CountsHeld.{held_counts_fit, held_incoming_fits}
 use Rattle.receiver_state.specs.declared.Receiver.{Receiver}
+use Rattle.receiver_state.specs.declared.Answer.{Answer as AnyAnswer}
 use Rattle.receiver_state.specs.declared.Answer.TheVariants as Answer
 use Rattle.receiver_datagrams.specs.declared.Stream.{Stream}
 use Rattle.receiver_state.specs.declared.sides.RowsShown.{RowsShown}
@@ -240,17 +242,27 @@ module _ (r : Receiver) (fs : List Float) (us bytes : List ℕ) (h : MediaHeader
         datagram_called (Framing.waterfall (model_side side)) stream r.audio k (rows_counted side k k-is) a accepts v.receiver fs' us'
         (taken.shown.taken ∙ rw is) taken.shown.areas
 
-    pub none_completed : v.completed ≡ None → DatagramTaken r fs us bytes (record { receiver = counted v.receiver; answer = Ok Answer.NoRow }) fs' us'
+    none_completed : v.completed ≡ None → DatagramTaken r fs us bytes (record { receiver = counted v.receiver; answer = Ok Answer.NoRow }) fs' us'
     unfolding is_accepted
     none_completed is = record { called = seen_called (row none) refl (rw is); row_bins = tt }
 
-    pub one_completed : (n : ℕ) → v.completed ≡ Some n → DatagramTaken r fs us bytes (record { receiver = counted v.receiver; answer = Ok (Answer.Row n) }) fs' us'
+    one_completed : (n : ℕ) → v.completed ≡ Some n → DatagramTaken r fs us bytes (record { receiver = counted v.receiver; answer = Ok (Answer.Row n) }) fs' us'
     unfolding is_accepted
     one_completed n is =
         record {
           called = rw (place_is side stream) (seen_called (row (some (take n (drop (row_place (sizes_of r.sizes) side) fs')))) refl (rw is));
           row_bins = rw is at taken.completed;
         }
+
+    -- a datagram that completes a row answers its length
+    pub row_answered : (a : AnyAnswer) → MatchOption v.completed (a ≡ Answer.NoRow) (λ n. a ≡ Answer.Row n)
+        → DatagramTaken r fs us bytes (record { receiver = counted v.receiver; answer = Ok a }) fs' us'
+    row_answered a says = by_completed v.completed refl says
+      where
+        by_completed : (o : Option ℕ) → v.completed ≡ o → MatchOption o (a ≡ Answer.NoRow) (λ n. a ≡ Answer.Row n)
+            → DatagramTaken r fs us bytes (record { receiver = counted v.receiver; answer = Ok a }) fs' us'
+        by_completed None is e = rw e (none_completed is)
+        by_completed (Some n) is e = rw e (one_completed n is)
 
 -- ---- questions 7 and 8
 
@@ -272,13 +284,6 @@ header_found_law bytes h is =
     by_test (ltb (length bytes) 16)
     (λ short. let no : some (header_of h) ≡ none = rw short at is in clash (cc))
     (λ long. let found : some (header_of h) ≡ some (header_fields bytes) = rw long at is in (ltb-false (length bytes) 16 long, cc))
-
-pub header_missing : (bytes : List ℕ) → none ≡ parse_header bytes → length bytes < 16
-unfolding parse_header
-header_missing bytes is =
-    by_test (ltb (length bytes) 16)
-    (λ short. ltb-true (length bytes) 16 short)
-    (λ long. let no : none ≡ some (header_fields bytes) = rw long at is in clash (cc))
 
 pub stream_found : (bytes : List ℕ) (h : MediaHeader) (s : Stream) → header_of h ≡ header_fields bytes → model_stream s ≡ Framing.stream_of h.stream_type → stream_in bytes ≡ model_stream s
 unfolding stream_in

@@ -1,5 +1,6 @@
 // The receiver's call for a datagram: its header, its counts, and its stream's work.
 // It asks nothing of its caller: any bytes, areas and state are answered, and a refusal changes nothing.
+// State, areas and bytes go in one by one: a struct of them would need a clause on each lent slice's reference in each contract.
 #![tactic(auto)]
 
 ghost use Rattle.std.specs.Prelude.{◌≡◌, length, ◌≤◌, Ok};
@@ -19,7 +20,7 @@ use receiver_state::counted::{answered, count_call, count_header};
 use receiver_state::sides::{audio_on, waterfall_on};
 use receiver_state::{Answer, Answered, Receiver};
 use udp::StreamCounts;
-use udp_framing::MediaHeader;
+use udp_framing::{MediaHeader, StreamType};
 
 // The stream of a datagram: a channel's sound or rows, or one that no channel takes.
 #[derive(Clone, Copy)]
@@ -29,14 +30,15 @@ pub enum Stream {
     Other,
 }
 
+#[tactic(auto, unfolding(model::specs::Framing::stream_of))]
 pub fn stream_of(stream_type: u8) -> Stream
     ensures { model_stream result ≡ stream_of stream_type }
 {
-    match stream_type {
-        1 => Stream::Audio(Side::A),
-        2 => Stream::Waterfall(Side::A),
-        3 => Stream::Audio(Side::B),
-        4 => Stream::Waterfall(Side::B),
+    match StreamType::try_from(stream_type) {
+        Ok(StreamType::Audio) => Stream::Audio(Side::A),
+        Ok(StreamType::Waterfall) => Stream::Waterfall(Side::A),
+        Ok(StreamType::AudioVfoB) => Stream::Audio(Side::B),
+        Ok(StreamType::WaterfallVfoB) => Stream::Waterfall(Side::B),
         _ => Stream::Other,
     }
 }
@@ -79,10 +81,7 @@ fn dispatched(
             let begun = count_header(r, r.audio, counts);
             let shown = waterfall_on(begun, fs, us, side, &bytes[16..]);
             let after = count_call(shown.receiver);
-            match shown.completed {
-                None => (after, Answer::NoRow),
-                Some(n) => (after, Answer::Row(n)),
-            }
+            (after, shown.completed.map_or(Answer::NoRow, Answer::Row))
         }
         // No channel takes it.
         Stream::Other => {
@@ -98,9 +97,8 @@ fn stream_allowed(z: Sizes, stream: Stream, bytes: &[u8]) -> bool
     ensures { result ≡ stream_allowed (sizes_of z) bytes.now (model_stream stream) }
 {
     match stream {
-        Stream::Audio(_) => true,
         Stream::Waterfall(_) => udp_packets::total_allowed(z, &bytes[16..]),
-        Stream::Other => true,
+        Stream::Audio(_) | Stream::Other => true,
     }
 }
 
@@ -130,9 +128,7 @@ fn received(
     ensures { DatagramTaken r fs.old us.old bytes.now (answered r result) fs.new us.new }
 {
     asked(r, fs, us)?;
-    let Some(header) = udp_framing::parse_media_header(bytes) else {
-        return Err(Refusal::Length);
-    };
+    let header = udp_framing::parse_media_header(bytes).ok_or(Refusal::Length)?;
     if 65535 < bytes.len() {
         return Err(Refusal::Length);
     }

@@ -1,15 +1,12 @@
 -- What an export answers, from what the receiver's call promises. Assumes nothing.
-use Prim.Native.Nat.{ℕ, ◌≤◌}
+use Prim.Native.Nat.{ℕ}
 use mathlib.Core.Path.{◌≡◌, refl, sym, ◌∙◌}
 use mathlib.Core.Bool.{Bool, true, false}
 use mathlib.Core.List.{List}
 use Rattle.std.proofs.Common.{Result}
-use lib.ListN.{length}
 use lib.Seq.{sets}
-use lib.Dec.{leb}
 use lib.Ieee.{Float}
-use borrow.Author.Tests.{leb-true}
-use Rattle.model.proofs.BoolLaws.{clash, first_of_both, second_of_both}
+use Rattle.model.proofs.BoolLaws.{clash}
 use Rattle.calls.specs.declared.Sizes.{Sizes}
 use Rattle.calls.specs.declared.Estimates.{Estimates}
 use Rattle.calls.specs.declared.Refusal.{Refusal}
@@ -20,12 +17,6 @@ use Rattle.receiver_words.specs.State.{receiver_at, answer_words, state_left, se
 use Rattle.receiver_exports.specs.Exported.{words_there, Promise, Exported, SetupExported}
 
 module _ (state answer : List ℕ) where
-  pub long_enough : {r : Bool} → r ≡ words_there state answer → r ≡ true → (90 ≤ length state) × (4 ≤ length answer)
-  unfolding words_there
-  long_enough asked told =
-      let both = sym asked ∙ told in
-      (leb-true 90 (length state) (first_of_both (leb 90 (length state)) _ both), leb-true 4 (length answer) (second_of_both (leb 90 (length state)) _ both))
-
   module _ (promise : Promise) where
     pub too_short_law : {kept : Type 0} → kept → {r : Bool} → r ≡ words_there state answer → r ≡ false → Exported promise kept state answer state answer false
     too_short_law k asked told = record { acts = sym told ∙ asked; short = λ e. (refl, refl, k); left = λ e. clash (cc) }

@@ -10,13 +10,27 @@ ghost use Rattle.receiver_exports.specs.Exported.{words_there, Calls, Plays, Tak
 
 use calls::{DepthCounts, Estimates, ProbeTimes, Settings, Side, Sizes};
 use receiver_setup::setup;
+use receiver_state::{Answered, Receiver};
 use receiver_words::state::{leave, leave_setup, receiver_at};
 
-#[tactic(auto, unfolding(crate::specs::Exported::words_there))]
 fn words_there(state: &[u64], answer: &[u64]) -> bool
     ensures { result ≡ words_there state.now answer.now }
 {
     90 <= state.len() && 4 <= answer.len()
+}
+
+// Where the words are there: the call at the receiver that the state's words are, and in words what it leaves and answers.
+// (The two calls that write areas stay by themselves: tried, and no fact says that the areas stay where nothing is called.)
+fn exported<F: FnOnce(Receiver) -> Answered>(state: &mut [u64], answer: &mut [u64], call: F) -> bool
+    requires { F.IsAlwaysCallable call }
+    ensures { Exported (F.post call) NoneWritten state.old answer.old state.new answer.new result }
+{
+    if !words_there(state, answer) {
+        return false;
+    }
+    let r = receiver_at(state);
+    leave(state, answer, call(r));
+    true
 }
 
 // A receiver of these sizes and estimates, over areas that may hold anything. The C interface passes plain numbers, one by one.
@@ -122,16 +136,9 @@ pub extern "C" fn receiver_reset(
 ) -> bool
     ensures { Exported (Calls (reset (model_side (side_named side))) fs.now us.now) NoneWritten state.old answer.old state.new answer.new result }
 {
-    if !words_there(state, answer) {
-        return false;
-    }
-    let r = receiver_at(state);
-    leave(
-        state,
-        answer,
-        receiver::settings::reset(r, fs, us, Side::from_number(side)),
-    );
-    true
+    exported(state, answer, |r| {
+        receiver::settings::reset(r, fs, us, Side::from_number(side))
+    })
 }
 
 #[unsafe(no_mangle)]
@@ -149,10 +156,6 @@ pub extern "C" fn receiver_set(
 ) -> bool
     ensures { Exported (Calls (set (model_side (side_named side)) (record { adaptive = adaptive; top = top; range = range; zoom = zoom; smoothing = smoothing })) fs.now us.now) NoneWritten state.old answer.old state.new answer.new result }
 {
-    if !words_there(state, answer) {
-        return false;
-    }
-    let r = receiver_at(state);
     let settings = Settings {
         adaptive,
         top,
@@ -160,12 +163,9 @@ pub extern "C" fn receiver_set(
         zoom,
         smoothing,
     };
-    leave(
-        state,
-        answer,
-        receiver::settings::set(r, fs, us, Side::from_number(side), settings),
-    );
-    true
+    exported(state, answer, |r| {
+        receiver::settings::set(r, fs, us, Side::from_number(side), settings)
+    })
 }
 
 #[unsafe(no_mangle)]
@@ -181,16 +181,9 @@ pub extern "C" fn receiver_probe(
 ) -> bool
     ensures { Exported (Calls (probe t1 t2 t3 t4) fs.now us.now) NoneWritten state.old answer.old state.new answer.new result }
 {
-    if !words_there(state, answer) {
-        return false;
-    }
-    let r = receiver_at(state);
-    leave(
-        state,
-        answer,
-        receiver::clock::probe(r, fs, us, ProbeTimes { t1, t2, t3, t4 }),
-    );
-    true
+    exported(state, answer, |r| {
+        receiver::clock::probe(r, fs, us, ProbeTimes { t1, t2, t3, t4 })
+    })
 }
 
 #[unsafe(no_mangle)]
@@ -204,16 +197,9 @@ pub extern "C" fn receiver_one_way(
 ) -> bool
     ensures { Exported (Calls (one_way receive send) fs.now us.now) NoneWritten state.old answer.old state.new answer.new result }
 {
-    if !words_there(state, answer) {
-        return false;
-    }
-    let r = receiver_at(state);
-    leave(
-        state,
-        answer,
-        receiver::clock::one_way(r, fs, us, receive, send),
-    );
-    true
+    exported(state, answer, |r| {
+        receiver::clock::one_way(r, fs, us, receive, send)
+    })
 }
 
 #[unsafe(no_mangle)]
@@ -230,22 +216,15 @@ pub extern "C" fn receiver_depth(
 ) -> bool
     ensures { Exported (Calls (depth samples (record { conceals = conceals; late = late; overflow = overflow; resyncs = resyncs })) fs.now us.now) NoneWritten state.old answer.old state.new answer.new result }
 {
-    if !words_there(state, answer) {
-        return false;
-    }
-    let r = receiver_at(state);
     let counts = DepthCounts {
         conceals,
         late,
         overflow,
         resyncs,
     };
-    leave(
-        state,
-        answer,
-        receiver::clock::depth(r, fs, us, samples, counts),
-    );
-    true
+    exported(state, answer, |r| {
+        receiver::clock::depth(r, fs, us, samples, counts)
+    })
 }
 
 #[unsafe(no_mangle)]
@@ -258,14 +237,7 @@ pub extern "C" fn receiver_transmit_depth(
 ) -> bool
     ensures { Exported (Calls (transmit_depth samples) fs.now us.now) NoneWritten state.old answer.old state.new answer.new result }
 {
-    if !words_there(state, answer) {
-        return false;
-    }
-    let r = receiver_at(state);
-    leave(
-        state,
-        answer,
-        receiver::clock::transmit_depth(r, fs, us, samples),
-    );
-    true
+    exported(state, answer, |r| {
+        receiver::clock::transmit_depth(r, fs, us, samples)
+    })
 }

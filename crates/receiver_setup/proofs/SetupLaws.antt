@@ -26,9 +26,10 @@ use Rattle.calls.specs.Refusals.{refusal_number}
 use Rattle.areas.proofs.Placed.{part_before, part_within}
 use Rattle.channel.proofs.Sections.{word_section_is}
 use Rattle.receiver_state.specs.declared.Receiver.{Receiver}
+use Rattle.receiver_state.specs.Fresh.{FreshReceiver}
 use Rattle.receiver_state.specs.View.{state_of, lent_of}
 use Rattle.receiver_setup.specs.Promises.{pictures_zeroed, SetupAccepted}
-use Rattle.receiver_setup.specs.Setup.{SetupReady, SetupAsked, FreshReceiver}
+use Rattle.receiver_setup.specs.Setup.{SetupReady, SetupAsked}
 use Rattle.receiver_state.proofs.StateQuestions.{word_area_is}
 
 -- ---- questions 1, 2 and 5

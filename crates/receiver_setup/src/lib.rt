@@ -3,24 +3,19 @@
 
 ghost use Rattle.std.specs.Prelude.{◌≡◌};
 ghost use Rattle.receiver_setup.specs.Promises.{pictures_zeroed, SetupDone};
-ghost use Rattle.receiver_setup.specs.Setup.{SetupReady, SetupAsked, FreshReceiver};
+ghost use Rattle.receiver_setup.specs.Setup.{SetupReady, SetupAsked};
 
-use audio_metrics::AudioMetrics;
 use calls::{Estimates, Refusal, Sizes};
-use channel::Channel;
 use receiver_state::Receiver;
 use receiver_state::asking::{areas_long, both_finite};
 use sizes::AllowedSizes;
-use udp::StreamCounts;
 
 // Questions 1, 2 and 5, in their order: the first that is answered with no, if one is. The sizes and both estimates stay three
 // parameters here and below: callers in other languages give them one by one, and each question takes a part of them.
 fn setup_asked(z: Sizes, a: Estimates, b: Estimates, fs: &[f32], us: &[u32]) -> Result<(), Refusal>
     ensures { SetupAsked z a b fs.now us.now result }
 {
-    let Some(sizes) = AllowedSizes::of(z) else {
-        return Err(Refusal::Sizes);
-    };
+    let sizes = AllowedSizes::of(z).ok_or(Refusal::Sizes)?;
     let long = areas_long(sizes, fs, us);
     let finite = both_finite(a, b);
     if !long {
@@ -45,27 +40,6 @@ fn zero_pictures(z: Sizes, us: &mut [u32])
     areas::fill(us, start + at, n, 0);
 }
 
-// The receiver before its first call.
-fn fresh_receiver(z: Sizes, a: Estimates, b: Estimates) -> Receiver
-    ensures { FreshReceiver z a b result }
-{
-    let audio = StreamCounts::new();
-    let waterfall = StreamCounts::new();
-    let first = Channel::new(a);
-    let second = Channel::new(b);
-    let clock = AudioMetrics::new();
-    Receiver {
-        sizes: z,
-        calls: 0,
-        incoming: 0,
-        audio,
-        waterfall,
-        a: first,
-        b: second,
-        clock,
-    }
-}
-
 // A receiver of these sizes and estimates, over areas that may hold anything; or the first question that was answered
 // with no. Only the u32 area is written, and where setup is refused nothing.
 pub fn setup(
@@ -79,5 +53,5 @@ pub fn setup(
 {
     setup_asked(z, a, b, fs, us)?;
     zero_pictures(z, us);
-    Ok(fresh_receiver(z, a, b))
+    Ok(Receiver::new(z, a, b))
 }

@@ -1,6 +1,6 @@
 -- Questions 1 to 4, asked of the fields and the areas, are the model's of the state that they hold. Assumes nothing.
 use mathlib.Core.Path.{◌≡◌, refl, sym}
-use mathlib.Core.Bool.{Bool, true, false, false≢true, and-eq-true_iff}
+use mathlib.Core.Bool.{Bool, true, false, false≢true}
 use mathlib.Core.Option.{some}
 use mathlib.Core.List.{List}
 use Rattle.std.specs.Prelude.{Ok, Err}

@@ -12,68 +12,18 @@ use Rattle.receiver_state.specs.declared.Answered.{Answered}
 
 -- one accepted call more
 abbrev pub counted : Receiver → Receiver
-counted r =
-    record {
-      sizes = r.sizes;
-      calls = r.calls + 1;
-      incoming = r.incoming;
-      audio = r.audio;
-      waterfall = r.waterfall;
-      a = r.a;
-      b = r.b;
-      clock = r.clock;
-    }
+counted r = record r { calls = r.calls + 1 }
 
 abbrev pub clock_set : AudioMetrics → Receiver → Receiver
-clock_set k r =
-    record {
-      sizes = r.sizes;
-      calls = r.calls;
-      incoming = r.incoming;
-      audio = r.audio;
-      waterfall = r.waterfall;
-      a = r.a;
-      b = r.b;
-      clock = k;
-    }
+clock_set k r = record r { clock = k }
 
 abbrev pub channel_set : Side → Channel → Receiver → Receiver
-channel_set A c r =
-    record {
-      sizes = r.sizes;
-      calls = r.calls;
-      incoming = r.incoming;
-      audio = r.audio;
-      waterfall = r.waterfall;
-      a = c;
-      b = r.b;
-      clock = r.clock;
-    }
-channel_set B c r =
-    record {
-      sizes = r.sizes;
-      calls = r.calls;
-      incoming = r.incoming;
-      audio = r.audio;
-      waterfall = r.waterfall;
-      a = r.a;
-      b = c;
-      clock = r.clock;
-    }
+channel_set A c r = record r { a = c }
+channel_set B c r = record r { b = c }
 
 -- one datagram more with a valid header, and other counts
 abbrev pub header_set : StreamCounts → StreamCounts → Receiver → Receiver
-header_set audio waterfall r =
-    record {
-      sizes = r.sizes;
-      calls = r.calls;
-      incoming = r.incoming + 1;
-      audio = audio;
-      waterfall = waterfall;
-      a = r.a;
-      b = r.b;
-      clock = r.clock;
-    }
+header_set audio waterfall r = record r { incoming = r.incoming + 1; audio = audio; waterfall = waterfall }
 
 -- a call's work, or the receiver as it came with the question that refuses the call
 abbrev pub answered : Receiver → Result (Receiver × Answer) Refusal → Answered

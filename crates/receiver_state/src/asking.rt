@@ -36,10 +36,7 @@ fn could_be_held(r: Receiver, us: &[u32]) -> bool
 pub fn asked(r: Receiver, fs: &[f32], us: &[u32]) -> Result<(), Refusal>
     ensures { EarlyAsked r fs.now us.now result }
 {
-    let z = r.sizes;
-    let Some(sizes) = AllowedSizes::of(z) else {
-        return Err(Refusal::Sizes);
-    };
+    let sizes = AllowedSizes::of(r.sizes).ok_or(Refusal::Sizes)?;
     if !areas_long(sizes, fs, us) {
         return Err(Refusal::NoRoom);
     }
@@ -65,9 +62,9 @@ pub fn areas_long(z: AllowedSizes, fs: &[f32], us: &[u32]) -> bool
 fn estimates_finite(e: Estimates) -> bool
     ensures { result ≡ estimates_finite (model_estimates e) }
 {
-    floats::is_finite(floats::from_bits(e.top))
-        && floats::is_finite(floats::from_bits(e.floor))
-        && floats::is_finite(floats::from_bits(e.range))
+    [e.top, e.floor, e.range]
+        .iter()
+        .all(|bits| floats::is_finite(floats::from_bits(*bits)))
 }
 
 // Question 5 of both channels' estimates.
@@ -82,8 +79,7 @@ pub fn both_finite(a: Estimates, b: Estimates) -> bool
 pub fn settings_finite(x: Settings) -> bool
     ensures { result ≡ settings_finite (model_settings x) }
 {
-    floats::is_finite(floats::from_bits(x.top))
-        && floats::is_finite(floats::from_bits(x.range))
-        && floats::is_finite(floats::from_bits(x.zoom))
-        && floats::is_finite(floats::from_bits(x.smoothing))
+    [x.top, x.range, x.zoom, x.smoothing]
+        .iter()
+        .all(|bits| floats::is_finite(floats::from_bits(*bits)))
 }

@@ -1,7 +1,8 @@
 // What a call leaves, refused or not, and a receiver with one part changed. Here alone a refusal is made, and accepted calls
 // and valid headers are counted.
-ghost use Rattle.std.specs.Prelude.{◌≡◌, ◌+◌, ◌<◌, ◌^◌, Err};
+ghost use Rattle.std.specs.Prelude.{◌≡◌, ◌+◌, ◌<◌, ◌^◌};
 ghost use Rattle.model.specs.Questions.{most_calls};
+ghost use Rattle.receiver_state.specs.declared.Answer.TheVariants.{Accepted};
 ghost use Rattle.receiver_state.specs.Fields.{answered, counted, clock_set, header_set};
 
 use crate::{Answer, Answered, Receiver};
@@ -9,22 +10,15 @@ use audio_metrics::AudioMetrics;
 use calls::Refusal;
 use udp::StreamCounts;
 
-// What a refused call leaves and answers: the receiver as it came.
-pub fn refusal(r: Receiver, why: Refusal) -> Answered
-    ensures { result ≡ record { receiver = r; answer = Err why } }
-{
-    Answered {
-        receiver: r,
-        answer: Err(why),
-    }
-}
-
 // What a call leaves and answers: its work's, or a refusal.
 pub fn answered(r: Receiver, work: Result<(Receiver, Answer), Refusal>) -> Answered
     ensures { result ≡ answered r work }
 {
     match work {
-        Err(why) => refusal(r, why),
+        Err(why) => Answered {
+            receiver: r,
+            answer: Err(why),
+        },
         Ok((receiver, answer)) => Answered {
             receiver,
             answer: Ok(answer),
@@ -41,6 +35,14 @@ pub fn count_call(r: Receiver) -> Receiver
         calls: r.calls + 1,
         ..r
     }
+}
+
+// One accepted call more, that answers nothing else.
+pub fn accepted(r: Receiver) -> (Receiver, Answer)
+    requires { r.calls < most_calls }
+    ensures { result ≡ (counted r, Accepted) }
+{
+    (count_call(r), Answer::Accepted)
 }
 
 // Another clock.

@@ -2,6 +2,8 @@
 // goes in by value and comes back; the two areas are lent. The crates receiver and receiver_datagrams have the calls.
 #![tactic(auto)]
 
+ghost use Rattle.receiver_state.specs.Fresh.{FreshReceiver};
+
 pub mod asking;
 pub mod counted;
 pub mod readings;
@@ -9,7 +11,7 @@ pub mod report;
 pub mod sides;
 
 use audio_metrics::AudioMetrics;
-use calls::{Refusal, Sizes};
+use calls::{Estimates, Refusal, Sizes};
 use channel::Channel;
 use udp::StreamCounts;
 
@@ -26,6 +28,24 @@ pub struct Receiver {
     pub a: Channel,
     pub b: Channel,
     pub clock: AudioMetrics,
+}
+
+impl Receiver {
+    // The receiver before its first call. Sizes and estimates are any.
+    pub fn new(sizes: Sizes, a: Estimates, b: Estimates) -> Self
+        ensures { FreshReceiver sizes a b result }
+    {
+        Receiver {
+            sizes,
+            calls: 0,
+            incoming: 0,
+            audio: StreamCounts::new(),
+            waterfall: StreamCounts::new(),
+            a: Channel::new(a),
+            b: Channel::new(b),
+            clock: AudioMetrics::new(),
+        }
+    }
 }
 
 // What an accepted call answers.

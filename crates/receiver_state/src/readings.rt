@@ -19,9 +19,7 @@ pub fn row_place(z: Sizes, side: Side) -> Option<usize>
 {
     let sizes = AllowedSizes::of(z)?;
     let begin = starts(sizes, side);
-    let offsets = sizes.section_offsets();
-    let at = begin.floats + offsets.row;
-    Some(at)
+    Some(begin.floats + sizes.section_offsets().row)
 }
 
 // Where a channel's picture begins in the u32 area: width × height colours, the top row first.
@@ -30,24 +28,17 @@ pub fn picture_place(z: Sizes, side: Side) -> Option<usize>
     ensures { result ≡ place_in z (picture_place (sizes_of z) side) }
 {
     let sizes = AllowedSizes::of(z)?;
-    let from = starts(sizes, side);
-    let most = sizes.most_waiting();
-    let at = from.words + most;
-    Some(at)
+    Some(starts(sizes, side).words + sizes.most_waiting())
 }
 
 // The samples that a buffer holds over sections of these sizes. Question 1 refuses the sizes, or question 3 a buffer in which
 // more waits or is queued than the sections hold.
+#[tactic(auto, using(model::proofs::SizeLaws::allowed))]
 fn buffered_in(z: Sizes, jitter: JitterBuffer) -> Result<usize, Refusal>
     ensures { result ≡ buffered_in z jitter }
 {
-    let Some(sizes) = AllowedSizes::of(z) else {
-        return Err(Refusal::Sizes);
-    };
-    if jitter.pending_len > sizes.most_waiting() {
-        return Err(Refusal::NotHeld);
-    }
-    if jitter.playout_len >= z.target + z.packet {
+    let sizes = AllowedSizes::of(z).ok_or(Refusal::Sizes)?;
+    if jitter.pending_len > sizes.most_waiting() || jitter.playout_len >= z.target + z.packet {
         return Err(Refusal::NotHeld);
     }
     Ok(jitter.buffered_samples(z))

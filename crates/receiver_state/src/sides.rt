@@ -1,5 +1,6 @@
 // One channel of a receiver: where its sections begin, and calls on its sound and its rows. Channel B's sections begin in
 // the middle of each area, and what is lent on to the channel's functions is the area from there on.
+// State and areas go in one by one: a struct of them would need a clause on each lent slice's reference in each contract.
 ghost use Rattle.std.specs.Prelude.{◌≡◌, true};
 ghost use Rattle.std.proofs.Math.Option.{none};
 ghost use Rattle.model.specs.Receiver.{row};
@@ -68,12 +69,14 @@ pub fn audio_on(
     requires { SidesReady r fs.old us.old }
     ensures { SideTaken side (audio_into (sizes_of r.sizes) sequence payload.now) r fs.old us.old (row none) result fs.new us.new }
 {
-    let z = r.sizes;
-    let begin = starts(AllowedSizes { sizes: z }, side);
-    let f = begin.floats;
-    let w = begin.words;
-    let before = channel_of(r, side);
-    let channel = before.audio(z, &mut fs[f..], &mut us[w..], sequence, payload);
+    let begin = starts(AllowedSizes { sizes: r.sizes }, side);
+    let channel = channel_of(r, side).audio(
+        r.sizes,
+        &mut fs[begin.floats..],
+        &mut us[begin.words..],
+        sequence,
+        payload,
+    );
     with_channel(r, side, channel)
 }
 
@@ -98,16 +101,17 @@ pub fn waterfall_on(
     let z = r.sizes;
     let sizes = AllowedSizes { sizes: z };
     let begin = starts(sizes, side);
-    let f = begin.floats;
-    let w = begin.words;
     let twice = 2 * sizes.float_section();
     let end = twice + z.bins;
-    let before = channel_of(r, side);
-    let shown = before.waterfall(z, &mut fs[f..end], twice - f, &mut us[w..], payload);
-    let channel = shown.channel;
-    let completed = shown.completed;
+    let shown = channel_of(r, side).waterfall(
+        z,
+        &mut fs[begin.floats..end],
+        twice - begin.floats,
+        &mut us[begin.words..],
+        payload,
+    );
     RowsShown {
-        receiver: with_channel(r, side, channel),
-        completed,
+        receiver: with_channel(r, side, shown.channel),
+        completed: shown.completed,
     }
 }

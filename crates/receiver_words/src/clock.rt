@@ -6,12 +6,12 @@ ghost use Rattle.audio_metrics_words.specs.Words.{clock_in};
 use audio_metrics::AudioMetrics;
 use audio_metrics_words::from_words;
 
+#[tactic(auto, unfolding(audio_metrics_words::specs::Words::clock_in))]
 pub fn clock_from(w: &[u64]) -> AudioMetrics
     requires { 14 ≤ length w.now }
     ensures { clock_of result ≡ clock_in w.now }
 {
-    let words = [
+    from_words(&[
         w[0], w[1], w[2], w[3], w[4], w[5], w[6], w[7], w[8], w[9], w[10], w[11], w[12], w[13],
-    ];
-    from_words(&words)
+    ])
 }

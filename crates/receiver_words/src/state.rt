@@ -13,13 +13,15 @@ use channel::Channel;
 use numbers::put;
 use receiver_state::{Answer, Answered, Receiver};
 
+#[tactic(auto, using(numbers::proofs::Stored::rest_is), unfolding(crate::specs::State::channel_read))]
 fn channel_from(w: &[u64]) -> Channel
     requires { 29 ≤ length w.now }
     ensures { result ≡ channel_read w.now }
 {
-    let jitter = buffer_from(w);
-    let screen = screen_from(&w[14..]);
-    Channel { jitter, screen }
+    Channel {
+        jitter: buffer_from(w),
+        screen: screen_from(&w[14..]),
+    }
 }
 
 // The receiver that the words are.
@@ -27,21 +29,15 @@ pub fn receiver_at(w: &[u64]) -> Receiver
     requires { 90 ≤ length w.now }
     ensures { result ≡ receiver_at w.now }
 {
-    let sizes = sizes_from(w);
-    let audio = counts_from(&w[8..]);
-    let waterfall = counts_from(&w[13..]);
-    let a = channel_from(&w[18..]);
-    let b = channel_from(&w[47..]);
-    let clock = clock_from(&w[76..]);
     Receiver {
-        sizes,
+        sizes: sizes_from(w),
         calls: w[6],
         incoming: w[7],
-        audio,
-        waterfall,
-        a,
-        b,
-        clock,
+        audio: counts_from(&w[8..]),
+        waterfall: counts_from(&w[13..]),
+        a: channel_from(&w[18..]),
+        b: channel_from(&w[47..]),
+        clock: clock_from(&w[76..]),
     }
 }
 
@@ -111,11 +107,8 @@ pub fn leave_setup(state: &mut [u64], answer: &mut [u64], s: Result<Receiver, Re
     requires { (90 ≤ length state.old) × (4 ≤ length answer.old) }
     ensures { (state.new ≡ setup_left s state.old) × (answer.new ≡ sets answer.old 0 (setup_words s)) }
 {
-    match s {
-        Err(why) => put(answer, 0, &[0, why.number() as u64, 0, 0]),
-        Ok(r) => {
-            put(answer, 0, &[1, 0, 0, 0]);
-            write_receiver(state, r);
-        }
+    put(answer, 0, &answer_words(s.map(|_| Answer::Accepted)));
+    if let Ok(r) = s {
+        write_receiver(state, r);
     }
 }

@@ -1,6 +1,6 @@
 // Sizes, a stream's counts, a jitter buffer and a screen in words.
 ghost use Rattle.std.specs.Prelude.{◌≡◌, ◌≤◌, length};
-ghost use Rattle.receiver_words.specs.Words.{sizes_in, sequence_in, counts_in, buffer_in, row_in, display_in, screen_in, flag_word, known_word, sequence_word, count_words, buffer_words, row_words, screen_words};
+ghost use Rattle.receiver_words.specs.Words.{sizes_in, sequence_in, counts_in, buffer_in, row_in, display_in, screen_in, known_word, sequence_word, count_words, buffer_words, row_words, screen_words};
 
 use audio_metrics_words::{float_from, float_word};
 use calls::Sizes;
@@ -8,12 +8,6 @@ use jitter_buffer::JitterBuffer;
 use reassembler::OpenRow;
 use udp::{Display, StreamCounts};
 use udp_packets::Screen;
-
-fn flag_word(b: bool) -> u64
-    ensures { result ≡ flag_word b }
-{
-    if b { 1 } else { 0 }
-}
 
 pub fn sizes_from(w: &[u64]) -> Sizes
     requires { 6 ≤ length w.now }
@@ -31,32 +25,23 @@ pub fn sizes_from(w: &[u64]) -> Sizes
 
 // ---- a sequence, if there is one
 
+#[tactic(auto, unfolding(crate::specs::Words::sequence_in))]
 fn sequence_from(known: u64, sequence: u64) -> Option<u32>
     ensures { result ≡ sequence_in known sequence }
 {
-    if known == 0 {
-        None
-    } else {
-        Some((sequence % 4294967296) as u32)
-    }
+    (known != 0).then_some((sequence % 4294967296) as u32)
 }
 
 fn known_word(sequence: Option<u32>) -> u64
     ensures { result ≡ known_word sequence }
 {
-    match sequence {
-        None => 0,
-        Some(_) => 1,
-    }
+    u64::from(sequence.is_some())
 }
 
 fn sequence_word(sequence: Option<u32>) -> u64
     ensures { result ≡ sequence_word sequence }
 {
-    match sequence {
-        None => 0,
-        Some(s) => s as u64,
-    }
+    sequence.map_or(0, |s| u64::from(s))
 }
 
 // ---- counts
@@ -65,25 +50,23 @@ pub fn counts_from(w: &[u64]) -> StreamCounts
     requires { 5 ≤ length w.now }
     ensures { result ≡ counts_in w.now }
 {
-    let last = sequence_from(w[3], w[4]);
     StreamCounts {
         packets: w[0],
         dropped: w[1],
         late: w[2],
-        last,
+        last: sequence_from(w[3], w[4]),
     }
 }
 
 pub fn count_words(c: StreamCounts) -> [u64; 5]
     ensures { result ≡ count_words c }
 {
-    let last = c.last;
     [
         c.packets,
         c.dropped,
         c.late,
-        known_word(last),
-        sequence_word(last),
+        known_word(c.last),
+        sequence_word(c.last),
     ]
 }
 
@@ -93,10 +76,9 @@ pub fn buffer_from(w: &[u64]) -> JitterBuffer
     requires { 14 ≤ length w.now }
     ensures { result ≡ buffer_in w.now }
 {
-    let next = sequence_from(w[1], w[2]);
     JitterBuffer {
         max_observed_buffered_samples: w[0] as usize,
-        next_sequence: next,
+        next_sequence: sequence_from(w[1], w[2]),
         pending_len: w[3] as usize,
         playout_len: w[4] as usize,
         consecutive_conceals: w[5] as usize,
@@ -114,11 +96,10 @@ pub fn buffer_from(w: &[u64]) -> JitterBuffer
 pub fn buffer_words(j: JitterBuffer) -> [u64; 14]
     ensures { result ≡ buffer_words j }
 {
-    let next = j.next_sequence;
     [
         j.max_observed_buffered_samples as u64,
-        known_word(next),
-        sequence_word(next),
+        known_word(j.next_sequence),
+        sequence_word(j.next_sequence),
         j.pending_len as u64,
         j.playout_len as u64,
         j.consecutive_conceals as u64,
@@ -135,6 +116,7 @@ pub fn buffer_words(j: JitterBuffer) -> [u64; 14]
 
 // ---- a screen
 
+#[tactic(auto, unfolding(crate::specs::Words::row_in))]
 fn row_from(w: &[u64]) -> Option<OpenRow>
     requires { 5 ≤ length w.now }
     ensures { result ≡ row_in w.now }
@@ -170,16 +152,15 @@ pub fn screen_from(w: &[u64]) -> Screen
     requires { 15 ≤ length w.now }
     ensures { result ≡ screen_in w.now }
 {
-    let row = row_from(w);
-    let display = display_from(w);
     Screen {
-        row,
+        row: row_from(w),
         spectrum_len: w[5] as usize,
         smooth_len: w[6] as usize,
-        display,
+        display: display_from(w),
     }
 }
 
+// No `map_or`: tried, and its closure, which makes an array, promised nothing that the proof could use.
 fn row_words(row: Option<OpenRow>) -> [u64; 5]
     ensures { result ≡ row_words row }
 {
@@ -191,16 +172,16 @@ fn row_words(row: Option<OpenRow>) -> [u64; 5]
         open.row_seq as u64,
         open.total_bins as u64,
         open.filled as u64,
-        flag_word(open.done),
+        u64::from(open.done),
     ]
 }
 
+#[tactic(auto, unfolding(crate::specs::Words::screen_words))]
 pub fn screen_words(s: Screen) -> [u64; 15]
     ensures { result ≡ screen_words s }
 {
-    let row = s.row;
     let d = s.display;
-    let t = row_words(row);
+    let t = row_words(s.row);
     [
         t[0],
         t[1],
@@ -209,7 +190,7 @@ pub fn screen_words(s: Screen) -> [u64; 15]
         t[4],
         s.spectrum_len as u64,
         s.smooth_len as u64,
-        flag_word(d.adaptive),
+        u64::from(d.adaptive),
         float_word(d.top),
         float_word(d.range),
         float_word(d.zoom),

@@ -9,10 +9,10 @@ mod rounds;
 
 use crate::rounds::Areas;
 use input::ReadFailed;
-use std::fmt;
 use std::io::Stdin;
 use tape::Setup;
 use tape::reader::setup_of;
+use thiserror::Error;
 use udp_framing::big_endian::BigEndian;
 
 // What is printed of the rounds.
@@ -25,29 +25,16 @@ struct Totals {
 }
 
 // Why nothing was repeated.
-#[derive(Clone, Copy)]
+#[derive(Debug, Drop, Error)]
 enum Failure {
-    Unread,
+    #[error("standard input could not be read")]
+    Unread(#[from] ReadFailed),
+    #[error("there is no number of rounds")]
     NoRounds,
+    #[error("the tape is refused")]
     TapeRefused,
+    #[error("the setup is refused")]
     SetupRefused,
-}
-
-impl fmt::Display for Failure {
-    fn fmt<W: fmt::Write>(&self, f: &mut fmt::Formatter<W>) -> fmt::Result {
-        f.write_str(match self {
-            Failure::Unread => "standard input could not be read",
-            Failure::NoRounds => "there is no number of rounds",
-            Failure::TapeRefused => "the tape is refused",
-            Failure::SetupRefused => "the setup is refused",
-        })
-    }
-}
-
-impl From<ReadFailed> for Failure {
-    fn from(_: ReadFailed) -> Failure {
-        Failure::Unread
-    }
 }
 
 // All rounds over the areas that were lent.

@@ -8,33 +8,15 @@ use crate::output::Areas;
 use input::ReadFailed;
 use std::io::Stdin;
 use std::{fmt, io};
+use thiserror::Error;
 
 // Why the replay is not printed to its end.
-#[derive(Clone, Copy)]
+#[derive(Debug, Drop, Error)]
 enum Failure {
-    Unread,
-    Unwritten,
-}
-
-impl fmt::Display for Failure {
-    fn fmt<W: fmt::Write>(&self, f: &mut fmt::Formatter<W>) -> fmt::Result {
-        f.write_str(match self {
-            Failure::Unread => "standard input could not be read",
-            Failure::Unwritten => "standard output could not be written",
-        })
-    }
-}
-
-impl From<ReadFailed> for Failure {
-    fn from(_: ReadFailed) -> Failure {
-        Failure::Unread
-    }
-}
-
-impl From<io::Error> for Failure {
-    fn from(_: io::Error) -> Failure {
-        Failure::Unwritten
-    }
+    #[error("standard input could not be read")]
+    Unread(#[from] ReadFailed),
+    #[error("standard output could not be written")]
+    Unwritten(#[from] io::Error),
 }
 
 // A sentence on standard error. One that cannot be written is left out.

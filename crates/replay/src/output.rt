@@ -7,9 +7,9 @@ use std::io;
 use tape::{Call, Placed};
 
 // No place of a tape is behind it.
-const EVERY_PLACE: usize = 0xffff_ffff_ffff_ffff;
+const EVERY_PLACE: usize = usize::MAX;
 
-// What is lent to a replay but for the samples.
+// What is lent to a replay but for the samples. (No const parameters: the areas of the other programs have samples too.)
 #[derive(Drop)]
 pub struct Areas {
     pub fs: [f32; 16384],
@@ -17,7 +17,8 @@ pub struct Areas {
     pub text: [u8; 8192],
 }
 
-// Pieces as long as they come: as many as the text has room for, written at once. The answer is where the replay is then.
+// Pieces as long as they come: as many as the text has room for, written at once. The answer is where the replay is then. (Not one
+// function with `playback_files::write_through`: it had to take the writer as a closure, and the writer's error as a type, for one loop.)
 fn steps(
     rt: &impl Print,
     begun: Playback,

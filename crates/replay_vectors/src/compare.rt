@@ -5,7 +5,8 @@ use playback_opening::NotBegun;
 use playback_opening::limits::begin_limited;
 use playback_parts::Playback;
 
-// What is lent to a replay: it holds anything, and then what the tape before has left there.
+// What is lent to a replay: it holds anything, and then what the tape before has left there. (No const
+// parameters: the areas of the other programs have no samples, or no text.)
 #[derive(Drop)]
 pub struct Areas {
     pub fs: [f32; 16384],
@@ -38,10 +39,8 @@ fn steps(
         &mut areas.samples,
         &mut areas.text,
     )? {
-        let Some(piece) = areas.written(v.bytes) else {
-            return Ok(false);
-        };
-        let Some(behind) = rest.strip_prefix(piece) else {
+        let written = areas.written(v.bytes);
+        let Some(behind) = written.and_then(|piece| rest.strip_prefix(piece)) else {
             return Ok(false);
         };
         rest = behind;

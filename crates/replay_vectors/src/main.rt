@@ -7,7 +7,8 @@ mod compare;
 mod records;
 
 use crate::compare::Areas;
-use crate::records::{Tally, replay_all};
+use crate::records::{Bench, replay_all};
+use tally::Tally;
 
 // Replays the list, with room for what is expected of a tape.
 fn replay_list(rt: HostRuntime, expected: &mut [u8; 600000]) {
@@ -19,9 +20,12 @@ fn replay_list(rt: HostRuntime, expected: &mut [u8; 600000]) {
         samples: [nan; 65535],
         text: io::buffer(),
     };
-    let mut t = Tally::new(rt);
-    let read = replay_all(&mut t, &mut tape, expected, &mut areas);
-    t.sum_up(read);
+    let mut b = Bench {
+        rt,
+        tally: Tally::default(),
+    };
+    let read = replay_all(&mut b, &mut tape, expected, &mut areas);
+    b.sum_up(read);
 }
 
 fn main(rt: HostRuntime) {

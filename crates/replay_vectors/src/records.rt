@@ -1,63 +1,47 @@
 // The tapes and their outputs, read one after the other.
 use crate::compare::{Areas, prints};
 use input::read_all;
-use std::fmt;
 use std::io::Stdin;
+use tally::Tally;
+use thiserror::Error;
 use udp_framing::big_endian::BigEndian;
 
 // No list has more tapes.
 const MOST: usize = 1000000;
 
 // Why a list was not read to its end.
-#[derive(Clone, Copy)]
+#[derive(Debug, Drop, Error)]
 pub enum ListError {
     // The list has more tapes than any.
+    #[error("the list is too long")]
     TooLong,
     // A part of a record, or one that is longer than any of the list.
+    #[error("the input ends in a part of a record")]
     Part,
 }
 
-impl fmt::Display for ListError {
-    fn fmt<W: fmt::Write>(&self, f: &mut fmt::Formatter<W>) -> fmt::Result {
-        match *self {
-            ListError::TooLong => write!(f, "the list is too long"),
-            ListError::Part => write!(f, "the input ends in a part of a record"),
-        }
-    }
-}
-
-// How many tapes were replayed, and how many differ. A line that cannot be written is left out, and changes no count.
+// What was seen so far. A line that cannot be written is left out, and changes no count.
 #[derive(Clone, Copy)]
-pub struct Tally {
-    rt: HostRuntime,
-    tapes: u64,
-    differ: u64,
+pub struct Bench {
+    pub rt: HostRuntime,
+    pub tally: Tally,
 }
 
-impl Tally {
-    pub fn new(rt: HostRuntime) -> Tally {
-        Tally {
-            rt,
-            tapes: 0,
-            differ: 0,
-        }
-    }
-
+impl Bench {
     // One tape more.
     fn count(&mut self, same: bool) {
-        self.tapes = self.tapes.wrapping_add(1);
+        self.tally.count(same);
         if !same {
-            self.differ = self.differ.wrapping_add(1);
-            let _ = println!(self.rt; "differs: tape {}", self.tapes);
+            let _ = println!(self.rt; "differs: tape {}", self.tally.seen);
         }
     }
 
     // What was found, and whether the list was read to its end.
     pub fn sum_up(self, read: Result<(), ListError>) {
-        let Tally { rt, tapes, differ } = self;
-        let _ = println!(rt; "{tapes} tapes replayed, {differ} differ");
+        let Tally { seen, different } = self.tally;
+        let _ = println!(self.rt; "{seen} tapes replayed, {different} differ");
         if let Err(e) = read {
-            let _ = println!(rt; "{e}");
+            let _ = println!(self.rt; "{e}");
         }
     }
 }
@@ -69,10 +53,7 @@ fn read(stdin: &mut Stdin, bytes: &mut [u8]) -> usize {
 
 // So many bytes of the input, which come to the front of the bytes.
 fn read_front<'a>(stdin: &mut Stdin, bytes: &'a mut [u8], n: usize) -> Result<&'a [u8], ListError> {
-    if bytes.len() < n {
-        return Err(ListError::Part);
-    }
-    let front = &mut bytes[..n];
+    let front = bytes.get_mut(..n).ok_or(ListError::Part)?;
     if read(stdin, front) < n {
         return Err(ListError::Part);
     }
@@ -100,17 +81,17 @@ fn replay_one(
 
 // The whole list.
 pub fn replay_all(
-    t: &mut Tally,
+    b: &mut Bench,
     tape: &mut [u8],
     expected: &mut [u8],
     areas: &mut Areas,
 ) -> Result<(), ListError> {
-    let mut stdin = t.rt.stdin();
+    let mut stdin = b.rt.stdin();
     for _ in 0..MOST {
         let Some(same) = replay_one(&mut stdin, tape, expected, areas)? else {
             return Ok(());
         };
-        t.count(same);
+        b.count(same);
     }
     Err(ListError::TooLong)
 }

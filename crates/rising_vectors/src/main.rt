@@ -8,6 +8,7 @@ ghost use Rattle.model.specs.Floats.{finite};
 ghost use Rattle.model.specs.Bytes.{all};
 
 use std::fmt;
+use tally::Tally;
 
 // The sort that is held against the vectors.
 #[derive(Clone, Copy)]
@@ -38,12 +39,11 @@ impl fmt::Display for Patterns<'_> {
     }
 }
 
-// How many vectors were seen, and how many of them differ. A line that cannot be written is left out, and changes no count.
+// What was seen so far, and the sort that comes next. A line that cannot be written is left out, and changes no count.
 #[derive(Clone, Copy)]
-struct Tally {
+struct Bench {
     rt: HostRuntime,
-    seen: u64,
-    different: u64,
+    tally: Tally,
     sort: Sort,
 }
 
@@ -53,7 +53,8 @@ fn all_finite(values: &[f32]) -> bool
     values.iter().all(|x| floats::is_finite(*x))
 }
 
-// Sorts what may be sorted, and says whether it did.
+// Sorts what may be sorted, and says whether it did. (No closure for the sort: it would stand, with its bound and its `requires`,
+// in each of the eight functions from `main` to here, which pass on a `Bench` now.)
 fn sorted(sort: Sort, values: &mut [f32], spare: &mut [f32]) -> bool {
     if spare.len() < values.len() {
         return false;
@@ -74,7 +75,7 @@ fn same_patterns(found: &[f32], expected: &[f32]) -> bool {
     found.eq(expected.iter().map(|x| floats::to_bits(*x)))
 }
 
-impl Tally {
+impl Bench {
     // A vector's line, with the values that it shows of what was found and of what was expected.
     fn vector(&mut self, name: &str, found: &[f32], expected: &[f32], equal: bool) {
         let verdict = if equal { "equal" } else { "DIFFERS" };
@@ -83,8 +84,7 @@ impl Tally {
             Patterns(found),
             Patterns(expected)
         );
-        self.seen = self.seen.wrapping_add(1);
-        self.different = self.different.wrapping_add(u64::from(!equal));
+        self.tally.count(equal);
     }
 
     // One short list, sorted and held against its rising order.
@@ -113,44 +113,36 @@ impl Tally {
     }
 
     fn sum_up(self) {
-        let Tally {
-            rt,
-            seen,
-            different,
-            ..
-        } = self;
-        let _ = if different == 0 {
-            println!(rt; "all {seen} vectors equal")
-        } else {
-            println!(rt; "{different} vectors differ")
-        };
+        let tally = self.tally;
+        let differ = format_args!("{} vectors differ", tally.different);
+        let _ = println!(self.rt; "{}", tally.sum(differ));
     }
 }
 
-fn few(t: &mut Tally) {
-    t.short("none", &mut [1.0f32; 0], &[1.0f32; 0]);
-    t.short("one", &mut [-2.5f32], &[-2.5f32]);
-    t.short("two", &mut [3.0f32, -3.0], &[-3.0f32, 3.0]);
+fn few(b: &mut Bench) {
+    b.short("none", &mut [1.0f32; 0], &[1.0f32; 0]);
+    b.short("one", &mut [-2.5f32], &[-2.5f32]);
+    b.short("two", &mut [3.0f32, -3.0], &[-3.0f32, 3.0]);
 }
 
-fn zeros(t: &mut Tally) {
-    t.short("-0 and 0 stay", &mut [-0.0f32, 0.0], &[-0.0f32, 0.0]);
-    t.short("0 and -0 stay", &mut [0.0f32, -0.0], &[0.0f32, -0.0]);
+fn zeros(b: &mut Bench) {
+    b.short("-0 and 0 stay", &mut [-0.0f32, 0.0], &[-0.0f32, 0.0]);
+    b.short("0 and -0 stay", &mut [0.0f32, -0.0], &[0.0f32, -0.0]);
     let mut mixed = [1.0f32, 0.0, -1.0, -0.0, 0.0, -0.0, -1.0, 0.0];
     let expected = [-1.0f32, -1.0, 0.0, -0.0, 0.0, -0.0, 0.0, 1.0];
-    t.short("zeros among others", &mut mixed, &expected);
+    b.short("zeros among others", &mut mixed, &expected);
 }
 
-fn equals_and_ends(t: &mut Tally) {
+fn equals_and_ends(b: &mut Bench) {
     let mut equal = [2.0f32, 1.0, 2.0, 1.0, 2.0, 1.0, 2.0];
     let expected = [1.0f32, 1.0, 1.0, 2.0, 2.0, 2.0, 2.0];
-    t.short("equal values", &mut equal, &expected);
+    b.short("equal values", &mut equal, &expected);
     let mut reversed = [8.0f32, 7.0, 6.0, 5.0, 4.0, 3.0, 2.0, 1.0];
     let expected = [1.0f32, 2.0, 3.0, 4.0, 5.0, 6.0, 7.0, 8.0];
-    t.short("reversed", &mut reversed, &expected);
+    b.short("reversed", &mut reversed, &expected);
     let mut ends = [3.4028235e38f32, 1.0e-45, -0.0, -1.0e-45, -3.4028235e38];
     let in_order = [-3.4028235e38f32, -1.0e-45, -0.0, 1.0e-45, 3.4028235e38];
-    t.short("largest and smallest", &mut ends, &in_order);
+    b.short("largest and smallest", &mut ends, &in_order);
 }
 
 // A way through the numbers 1 to 65535, in which each comes once.
@@ -204,7 +196,7 @@ fn room() -> [f32; 65535]
 }
 
 // Zeros are level, so theirs stays as it is.
-fn long_lists(t: &mut Tally) {
+fn long_lists(b: &mut Bench) {
     let lists = [
         (
             "65535 numbers, scattered",
@@ -238,24 +230,23 @@ fn long_lists(t: &mut Tally) {
         ),
     ];
     for (name, kind, run, order) in lists {
-        t.long(name, kind, run, order);
+        b.long(name, kind, run, order);
     }
 }
 
 fn main(rt: HostRuntime) {
-    let mut t = Tally {
+    let mut b = Bench {
         rt,
-        seen: 0,
-        different: 0,
+        tally: Tally::default(),
         sort: Sort::Merging,
     };
     for sort in [Sort::Merging, Sort::Digits] {
-        t.sort = sort;
+        b.sort = sort;
         let _ = println!(rt; "by {sort}");
-        few(&mut t);
-        zeros(&mut t);
-        equals_and_ends(&mut t);
-        long_lists(&mut t);
+        few(&mut b);
+        zeros(&mut b);
+        equals_and_ends(&mut b);
+        long_lists(&mut b);
     }
-    t.sum_up();
+    b.sum_up();
 }

@@ -54,12 +54,11 @@ impl AllowedSizes {
     }
 
     // The most packets that wait: max / packet, rounded up.
+    #[tactic(auto, using(model::proofs::SizeLaws::allowed))]
     pub fn most_waiting(self) -> usize
         ensures { result ≡ most_waiting (sizes_of self.sizes) }
     {
-        let z = self.sizes;
-        let packet = z.packet;
-        (z.max + packet - 1) / packet
+        self.sizes.max.div_ceil(self.sizes.packet)
     }
 
     // The places of the f32 section of one channel.

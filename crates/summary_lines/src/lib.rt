@@ -1,4 +1,5 @@
-// The lines of a summary, as pieces of text at the front of lent bytes.
+// The lines of a summary, as pieces of text at the front of lent bytes. (That a text has room for one stays in the contracts, as in
+// `playback_parts`.)
 #![tactic(auto)]
 
 ghost use Rattle.std.specs.Prelude.{[], ◌∷◌, map, ◌+◌, ◌*◌, ◌≤◌, length};

@@ -65,6 +65,8 @@ module _ {tape : List ℕ} (are : all is_byte tape ≡ true) (fits : length tape
 
 -- ---- what is written
 
+-- (Each answer names its lemma: tried, and `using` closes none, since it asks grind, which applies no lemma that gives a record.)
+
 module _ (place : ℕ) {old new : List ℕ} {a : Result ℕ PutError} {r : ℕ} (fits : length old < 2 ^ 64) (e : r ≡ put_number a) where
   pub call_handed : (c : Call) → Wrote (put_call place c old) old new a → PutHanded (put_call place c old) old new r
   call_handed c w = record { answered = e ∙ ap put_number w.answers; below = call_below place old fits c; target = w.target }

@@ -1,7 +1,6 @@
 -- The tape's answers as numbers, for programs in other languages. Assumes nothing.
 use Rattle.std.specs.Prelude.{ℕ, ◌-◌, Bool, true, false, List, [], ◌∷◌, ◌++◌, length, take, drop, Some, None, Result, Ok, Err}
-use Rattle.calls.specs.declared.Side.{Side}
-use Rattle.calls.specs.declared.Side.TheVariants.{A, B}
+use Rattle.calls.specs.Sides.{side_number}
 use Rattle.tape.specs.declared.Setup.{Setup}
 use Rattle.tape.specs.declared.BadWord.{BadWord}
 use Rattle.tape.specs.Answers.{Found}
@@ -17,11 +16,6 @@ abbrev pub handed : List ℕ → List ℕ → List ℕ
 handed numbers out = take (length out) numbers ++ drop (length numbers) out
 
 -- ---- fields
-
--- channel A is 0 and B is 1
-abbrev pub side_number : Side → ℕ
-side_number A = 0
-side_number B = 1
 
 abbrev pub flag_number : Bool → ℕ
 flag_number true = 1

@@ -2,20 +2,11 @@
 ghost use Rattle.std.specs.Prelude.{◌≡◌};
 ghost use Rattle.std.proofs.lemmas.List.Edits.{sets};
 ghost use Rattle.tape.specs.declared.Call.TheVariants as call;
-ghost use Rattle.tape_exports.specs.Numbers.{side_number, flag_number, setup_numbers, call_numbers, found_numbers};
+ghost use Rattle.tape_exports.specs.Numbers.{flag_number, setup_numbers, call_numbers, found_numbers};
 
 use calls::{DepthCounts, Settings, Side};
 use numbers::put;
 use tape::{Call, Found, Placed, Setup};
-
-fn side_number(side: Side) -> u64
-    ensures { result ≡ side_number side }
-{
-    match side {
-        Side::A => 0,
-        Side::B => 1,
-    }
-}
 
 fn flag(b: bool) -> u64
     ensures { result ≡ flag_number b }
@@ -29,7 +20,7 @@ fn put_set(out: &mut [u64], side: Side, x: Settings, next: usize)
     let numbers = [
         4,
         next as u64,
-        side_number(side),
+        side.number(),
         flag(x.adaptive),
         x.top as u64,
         x.range as u64,
@@ -62,9 +53,9 @@ fn put_call(out: &mut [u64], placed: Placed)
     match placed.call {
         Call::Datagram { at, len } => put(out, 0, &[1, next as u64, at as u64, len as u64]),
         Call::Play { side, samples } => {
-            put(out, 0, &[2, next as u64, side_number(side), samples as u64])
+            put(out, 0, &[2, next as u64, side.number(), samples as u64])
         }
-        Call::Reset { side } => put(out, 0, &[3, next as u64, side_number(side), 0]),
+        Call::Reset { side } => put(out, 0, &[3, next as u64, side.number(), 0]),
         Call::Set { side, settings } => put_set(out, side, settings, next),
         Call::Probe(t) => put(out, 0, &[5, next as u64, t.t1, t.t2, t.t3, t.t4]),
         Call::OneWay { receive, send } => put(out, 0, &[6, next as u64, receive, send]),

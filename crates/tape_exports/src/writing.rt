@@ -8,17 +8,17 @@ ghost use Rattle.calls.specs.Sides.{side_named};
 ghost use Rattle.tape_exports.specs.Numbers.{put_number};
 ghost use Rattle.tape_exports.specs.Promises.{PutHanded};
 
-use calls::{DepthCounts, Estimates, ProbeTimes, Settings, Side, Sizes};
+use calls::{DepthCounts, Estimates, ProbeTimes, Refusal, Settings, Side, Sizes};
+use tape::Setup;
 use tape_writer::PutError;
 
-// The place after, or the largest number less the refusal's number: 11 or 2.
+// The place after, or the largest number less the refusal's number.
 fn answer(p: Result<usize, PutError>) -> u64
     ensures { result ≡ put_number p }
 {
     match p {
         Ok(next) => next as u64,
-        Err(PutError::TooLarge { place: _ }) => u64::MAX - 11,
-        Err(PutError::NoRoom) => u64::MAX - 2,
+        Err(why) => u64::MAX - u64::from(Refusal::from(why).number()),
     }
 }
 
@@ -141,23 +141,25 @@ pub extern "C" fn tape_put_setup(
 ) -> u64
     ensures { PutHanded (put_setup place (model_setup (record { packet = «packet»; target = queue_target; max = «max»; bins = «bins»; width = «width»; height = «height» }) (record { top = a1; floor = a2; range = a3 }) (record { top = b1; floor = b2; range = b3 })) target.old) target.old target.new result }
 {
-    let z = Sizes {
-        packet,
-        target: queue_target,
-        max,
-        bins,
-        width,
-        height,
+    let x = Setup {
+        sizes: Sizes {
+            packet,
+            target: queue_target,
+            max,
+            bins,
+            width,
+            height,
+        },
+        a: Estimates {
+            top: a1,
+            floor: a2,
+            range: a3,
+        },
+        b: Estimates {
+            top: b1,
+            floor: b2,
+            range: b3,
+        },
     };
-    let a = Estimates {
-        top: a1,
-        floor: a2,
-        range: a3,
-    };
-    let b = Estimates {
-        top: b1,
-        floor: b2,
-        range: b3,
-    };
-    answer(tape_writer::put_setup(target, place, z, a, b))
+    answer(tape_writer::put_setup(target, place, x))
 }

@@ -1,16 +1,9 @@
 // The lines of a tape. Each begins with the place of what it tells and its kind; a float stands there by its bits.
 ghost use Rattle.tape.specs.Answers.{CallInside};
 
-use calls::{ProbeTimes, Side};
+use calls::ProbeTimes;
 use std::io;
-use tape::{BadWord, Call, Setup};
-
-fn letter(side: Side) -> char {
-    match side {
-        Side::A => 'A',
-        Side::B => 'B',
-    }
-}
+use tape::{BadWord, Call, FIRST_CALL, Setup};
 
 fn setup(rt: &impl Print, s: Setup) -> io::Result<()> {
     let z = s.sizes;
@@ -51,17 +44,13 @@ fn call(rt: &impl Print, at: usize, tape: &[u8], call: Call) -> io::Result<()>
 {
     match call {
         Call::Datagram { at: from, len } => datagram(rt, at, &tape[from..from + len]),
-        Call::Play { side, samples } => println!(rt; "{at} play {} {samples}", letter(side)),
-        Call::Reset { side } => println!(rt; "{at} reset {}", letter(side)),
+        Call::Play { side, samples } => println!(rt; "{at} play {side} {samples}"),
+        Call::Reset { side } => println!(rt; "{at} reset {side}"),
         Call::Set { side, settings: x } => {
             let adaptive = u8::from(x.adaptive);
             println!(rt;
-                "{at} set {} {adaptive} {:08x} {:08x} {:08x} {:08x}",
-                letter(side),
-                x.top,
-                x.range,
-                x.zoom,
-                x.smoothing
+                "{at} set {side} {adaptive} {:08x} {:08x} {:08x} {:08x}",
+                x.top, x.range, x.zoom, x.smoothing
             )
         }
         Call::Probe(ProbeTimes { t1, t2, t3, t4 }) => println!(rt;
@@ -91,7 +80,7 @@ fn bad_word(rt: &impl Print, at: usize, tape: &[u8], bad: BadWord) -> io::Result
 
 // The calls, one after the other, and what ends them; each call takes a word of the tape at least.
 fn calls(rt: &impl Print, tape: &[u8]) -> io::Result<()> {
-    let mut at = 13;
+    let mut at = FIRST_CALL;
     for _ in 0..tape.len() {
         match tape_reader::found_at(tape, at) {
             Ok(Some(placed)) => {

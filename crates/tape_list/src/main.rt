@@ -6,37 +6,19 @@
 mod listing;
 
 use input::ReadFailed;
+use std::io;
 use std::io::Stdin;
-use std::{fmt, io};
+use thiserror::Error;
 
 // Why the tape is not listed, or not to its end.
-#[derive(Clone, Copy)]
+#[derive(Debug, Drop, Error)]
 enum Failure {
-    Unread,
+    #[error("standard input could not be read")]
+    Unread(#[from] ReadFailed),
+    #[error("the tape is longer than 524288 bytes")]
     TooLong,
-    Unwritten,
-}
-
-impl fmt::Display for Failure {
-    fn fmt<W: fmt::Write>(&self, f: &mut fmt::Formatter<W>) -> fmt::Result {
-        f.write_str(match self {
-            Failure::Unread => "standard input could not be read",
-            Failure::TooLong => "the tape is longer than 524288 bytes",
-            Failure::Unwritten => "standard output could not be written",
-        })
-    }
-}
-
-impl From<ReadFailed> for Failure {
-    fn from(_: ReadFailed) -> Failure {
-        Failure::Unread
-    }
-}
-
-impl From<io::Error> for Failure {
-    fn from(_: io::Error) -> Failure {
-        Failure::Unwritten
-    }
+    #[error("standard output could not be written")]
+    Unwritten(#[from] io::Error),
 }
 
 // Of a longer tape one byte more than the limit is read.

@@ -1,105 +1,91 @@
 // What was written, read back field by field.
 use crate::report::Bench;
-use crate::sample::{TIMES, depth_counts, estimates, every_call, settings, small, small_sizes};
+use crate::sample::{TIMES, depth_counts, every_call, every_call_setup, settings, small};
 use calls::Side;
-use tape::{BadWord, Call, Found, Placed, Setup, reader};
+use tape::{BadWord, Call, Found, Placed, reader};
 use tape_writer::PutError;
 
-fn byte(t: &[u8], at: usize) -> u8 {
-    t.get(at).copied().unwrap_or(0)
-}
+// A call's label, its place and what must be found there.
+type Vector = (&'static str, usize, Found);
 
-// The call that is expected stands there, and the next place after it.
-fn is_call(f: Found, call: Call, next: usize) -> bool {
-    f == Ok(Some(Placed { call, next }))
-}
-
-fn is_datagram(t: &[u8], f: Found) -> bool {
-    is_call(f, Call::Datagram { at: 56, len: 5 }, 16) && byte(t, 56) == 1 && byte(t, 60) == 5
-}
-
-fn is_play(f: Found, side: Side, samples: u32, after: usize) -> bool {
-    is_call(f, Call::Play { side, samples }, after)
-}
-
-fn is_reset(f: Found, side: Side, after: usize) -> bool {
-    is_call(f, Call::Reset { side }, after)
-}
-
-fn is_set(f: Found, side: Side, after: usize) -> bool {
-    let settings = settings(side == Side::B);
-    is_call(f, Call::Set { side, settings }, after)
-}
-
-fn is_probe(f: Found) -> bool {
-    is_call(f, Call::Probe(TIMES), 39)
-}
-
-fn is_one_way(f: Found) -> bool {
-    let expected = Call::OneWay {
-        receive: 12884901892,
-        send: 5,
-    };
-    is_call(f, expected, 44)
-}
-
-fn is_depth(f: Found) -> bool {
-    let expected = Call::Depth {
-        samples: 4294967295,
-        counts: depth_counts(),
-    };
-    is_call(f, expected, 54)
-}
-
-fn is_transmit(f: Found) -> bool {
-    is_call(f, Call::TransmitDepth { samples: 7 }, 56)
-}
-
-fn is_end(f: Found) -> bool {
-    f == Ok(None)
-}
-
-fn is_bad(f: Found, place: usize) -> bool {
-    f == Err(BadWord { place })
-}
-
-fn is_setup(s: Result<Setup, BadWord>) -> bool {
-    s == Ok(Setup {
-        sizes: small_sizes(),
-        a: estimates(1, 2, 3),
-        b: estimates(4, 5, 4294967295),
-    })
+// The call, and the next place after it.
+fn call(call: Call, next: usize) -> Found {
+    Ok(Some(Placed { call, next }))
 }
 
 fn said(b: &mut Bench, label: &str, equal: bool) {
     b.counted(format_args!("{label}: read back"), equal);
 }
 
+// Whatever must be found, each at its place.
+fn each(t: &[u8], b: &mut Bench, vectors: &[Vector]) {
+    for &(label, place, expected) in vectors {
+        said(b, label, reader::call_at(t, place) == expected);
+    }
+}
+
+fn setup(t: &[u8], b: &mut Bench) {
+    said(b, "setup", reader::setup_of(t) == Ok(every_call_setup()));
+}
+
+// The datagram, with the first and the last of its bytes.
+fn datagram(t: &[u8], b: &mut Bench) {
+    let expected = call(Call::Datagram { at: 56, len: 5 }, 16);
+    let equal = reader::call_at(t, 13) == expected
+        && t.get(56) == Some(&1)
+        && t.get(60) == Some(&5);
+    said(b, "datagram", equal);
+}
+
+fn play(side: Side, samples: u32, next: usize) -> Found {
+    call(Call::Play { side, samples }, next)
+}
+
+fn set(side: Side, adaptive: bool, next: usize) -> Found {
+    let settings = settings(adaptive);
+    call(Call::Set { side, settings }, next)
+}
+
 fn channel_calls(t: &[u8], b: &mut Bench) {
-    said(b, "datagram", is_datagram(t, reader::call_at(t, 13)));
-    said(b, "play A", is_play(reader::call_at(t, 16), Side::A, 2, 17));
-    said(
+    each(
+        t,
         b,
-        "play B",
-        is_play(reader::call_at(t, 17), Side::B, 65535, 18),
+        &[
+            ("play A", 16, play(Side::A, 2, 17)),
+            ("play B", 17, play(Side::B, 65535, 18)),
+            ("reset A", 18, call(Call::Reset { side: Side::A }, 19)),
+            ("reset B", 19, call(Call::Reset { side: Side::B }, 20)),
+            ("set A", 20, set(Side::A, false, 25)),
+            ("set B", 25, set(Side::B, true, 30)),
+        ],
     );
-    said(b, "reset A", is_reset(reader::call_at(t, 18), Side::A, 19));
-    said(b, "reset B", is_reset(reader::call_at(t, 19), Side::B, 20));
-    said(b, "set A", is_set(reader::call_at(t, 20), Side::A, 25));
-    said(b, "set B", is_set(reader::call_at(t, 25), Side::B, 30));
 }
 
 fn clock_calls(t: &[u8], b: &mut Bench) {
-    said(b, "probe", is_probe(reader::call_at(t, 30)));
-    said(b, "one-way", is_one_way(reader::call_at(t, 39)));
-    said(b, "depth", is_depth(reader::call_at(t, 44)));
-    said(b, "transmit depth", is_transmit(reader::call_at(t, 54)));
-    said(b, "end", is_end(reader::call_at(t, 56)));
-    said(b, "past the end", is_bad(reader::call_at(t, 57), 57));
-    said(
+    let one_way = Call::OneWay {
+        receive: 12884901892,
+        send: 5,
+    };
+    let depth = Call::Depth {
+        samples: 4294967295,
+        counts: depth_counts(),
+    };
+    each(
+        t,
         b,
-        "largest place",
-        is_bad(reader::call_at(t, 18446744073709551615), 57),
+        &[
+            ("probe", 30, call(Call::Probe(TIMES), 39)),
+            ("one-way", 39, call(one_way, 44)),
+            ("depth", 44, call(depth, 54)),
+            (
+                "transmit depth",
+                54,
+                call(Call::TransmitDepth { samples: 7 }, 56),
+            ),
+            ("end", 56, Ok(None)),
+            ("past the end", 57, Err(BadWord { place: 57 })),
+            ("largest place", usize::MAX, Err(BadWord { place: 57 })),
+        ],
     );
 }
 
@@ -109,17 +95,18 @@ fn fields(b: &mut Bench) {
     let Some(whole) = tape.get(..228) else {
         return;
     };
-    said(b, "setup", is_setup(reader::setup_of(whole)));
+    setup(whole, b);
+    datagram(whole, b);
     channel_calls(whole, b);
     clock_calls(whole, b);
 }
 
 // The two tapes as they were written.
 pub fn every_field(b: &mut Bench) {
-    let large = every_call(&mut b.tape);
+    let large = every_call(&mut b.tape).unwrap_or(0);
     b.numbers("words of the large tape", large as u64, 57);
     fields(b);
-    let less = small(&mut b.tape);
+    let less = small(&mut b.tape).unwrap_or(0);
     b.numbers("words of the small tape", less as u64, 21);
 }
 

@@ -17,7 +17,7 @@ impl Bench {
 
     // The tape of every call with another word at a place, and so many bytes of it.
     pub fn with_word(&mut self, place: usize, word: u32, n: usize, expected: Verdict) {
-        every_call(&mut self.tape);
+        let _ = every_call(&mut self.tape);
         self.set_word(57, 0);
         self.set_word(place, word);
         let found = self.verdict(n);
@@ -30,7 +30,7 @@ impl Bench {
 
     // The tape of every call with another byte.
     pub fn with_byte(&mut self, at: usize, byte: u8, expected: Verdict) {
-        every_call(&mut self.tape);
+        let _ = every_call(&mut self.tape);
         if let Some(b) = self.tape.get_mut(at) {
             *b = byte;
         }
@@ -49,7 +49,7 @@ impl Bench {
     // The small tape cut at every byte: bad behind the last whole word.
     pub fn each_cut(&mut self) {
         for n in 0..84 {
-            small(&mut self.tape);
+            let _ = small(&mut self.tape);
             let found = self.verdict(n);
             self.compared(
                 format_args!("small tape cut to {n} bytes"),
@@ -61,7 +61,7 @@ impl Bench {
 
     // The small tape, and bytes behind its end.
     pub fn behind_end(&mut self, n: usize, expected: Verdict) {
-        small(&mut self.tape);
+        let _ = small(&mut self.tape);
         self.set_word(21, 0);
         self.set_word(22, 0);
         let found = self.verdict(n);

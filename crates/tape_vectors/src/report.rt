@@ -1,16 +1,16 @@
 // Lines of output, and how many of them were as expected.
 use std::fmt;
 use std::fmt::Display;
+use tally::Tally;
 use tape::BadWord;
 
-// The tape that is written, read and damaged, and how many vectors were seen, and how many of them were equal. A line that
-// cannot be written is left out, and changes no count.
+// The tape that is written, read and damaged, and what was seen so far. A line that cannot be written is left out, and changes
+// no count.
 #[derive(Clone, Copy)]
 pub struct Bench {
     pub rt: HostRuntime,
     pub tape: [u8; 256],
-    pub seen: u64,
-    pub equal: u64,
+    pub tally: Tally,
 }
 
 // The verdict on a tape.
@@ -39,8 +39,7 @@ impl Bench {
         Bench {
             rt,
             tape: [0; 256],
-            seen: 0,
-            equal: 0,
+            tally: Tally::default(),
         }
     }
 
@@ -48,8 +47,7 @@ impl Bench {
     pub fn counted<L: Display + Drop>(&mut self, line: L, equal: bool) {
         let end = if equal { "" } else { " NOT EQUAL" };
         let _ = println!(self.rt; "{line}{end}");
-        self.seen = self.seen.wrapping_add(1);
-        self.equal = self.equal.wrapping_add(u64::from(equal));
+        self.tally.count(equal);
     }
 
     // What was found against what was expected.
@@ -69,16 +67,8 @@ impl Bench {
     }
 
     pub fn sum_up(self) {
-        let Bench {
-            rt,
-            seen,
-            equal,
-            ..
-        } = self;
-        let _ = if seen == equal {
-            println!(rt; "all {seen} vectors equal")
-        } else {
-            println!(rt; "{equal} of {seen} vectors equal")
-        };
+        let tally = self.tally;
+        let differ = format_args!("{} of {} vectors equal", tally.equal(), tally.seen);
+        let _ = println!(self.rt; "{}", tally.sum(differ));
     }
 }

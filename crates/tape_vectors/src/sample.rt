@@ -1,5 +1,6 @@
 // Two tapes: one with every kind of call, of 57 words, and the small one of 21 words that docs/TAPE.md prints.
 use calls::{DepthCounts, Estimates, ProbeTimes, Settings, Side, Sizes};
+use tape::Setup;
 use tape_writer::PutError;
 
 // A probe of which each time shows which half of it stands where.
@@ -10,7 +11,7 @@ pub(crate) const TIMES: ProbeTimes = ProbeTimes {
     t4: 0,
 };
 
-pub fn small_sizes() -> Sizes {
+fn small_sizes() -> Sizes {
     Sizes {
         packet: 2,
         target: 2,
@@ -21,8 +22,17 @@ pub fn small_sizes() -> Sizes {
     }
 }
 
-pub fn estimates(top: u32, floor: u32, range: u32) -> Estimates {
+fn estimates(top: u32, floor: u32, range: u32) -> Estimates {
     Estimates { top, floor, range }
+}
+
+// The setup of the tape with every kind of call.
+pub fn every_call_setup() -> Setup {
+    Setup {
+        sizes: small_sizes(),
+        a: estimates(1, 2, 3),
+        b: estimates(4, 5, 4294967295),
+    }
 }
 
 pub fn settings(adaptive: bool) -> Settings {
@@ -73,35 +83,27 @@ fn clock_calls(t: &mut [u8], place: usize) -> Result<usize, PutError> {
     tape_writer::put_transmit_depth(t, p, 7)
 }
 
-fn every_call_put(t: &mut [u8]) -> Result<usize, PutError> {
-    let p = tape_writer::put_setup(
-        t,
-        0,
-        small_sizes(),
-        estimates(1, 2, 3),
-        estimates(4, 5, 4294967295),
-    )?;
+// Every kind of call, in 228 bytes. The answer is the place after them.
+pub fn every_call(t: &mut [u8]) -> Result<usize, PutError> {
+    let p = tape_writer::put_setup(t, 0, every_call_setup())?;
     let p = channel_calls(t, p)?;
     let p = clock_calls(t, p)?;
     tape_writer::put_end(t, p)
 }
 
-// Every kind of call, in 228 bytes. The place after them, or 0 where one is refused.
-pub fn every_call(t: &mut [u8]) -> usize {
-    every_call_put(t).unwrap_or(0)
-}
-
-fn small_put(t: &mut [u8]) -> Result<usize, PutError> {
+// The small tape, in 84 bytes, likewise.
+pub fn small(t: &mut [u8]) -> Result<usize, PutError> {
     let bytes = [
         0x52u8, 0x53, 1, 1, 0, 0, 0, 7, 0, 0, 0, 0, 0, 0, 0, 0, 0xff, 0x7f, 0x01, 0x80,
     ];
-    let p = tape_writer::put_setup(t, 0, small_sizes(), estimates(0, 0, 0), estimates(0, 0, 0))?;
+    let none = estimates(0, 0, 0);
+    let setup = Setup {
+        sizes: small_sizes(),
+        a: none,
+        b: none,
+    };
+    let p = tape_writer::put_setup(t, 0, setup)?;
     let p = tape_writer::put_datagram(t, p, &bytes)?;
     let p = tape_writer::put_play(t, p, Side::A, 2)?;
     tape_writer::put_end(t, p)
-}
-
-// The small tape, in 84 bytes, likewise.
-pub fn small(t: &mut [u8]) -> usize {
-    small_put(t).unwrap_or(0)
 }

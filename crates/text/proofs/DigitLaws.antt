@@ -1,8 +1,9 @@
 -- The last digits of a number are its decimal text where they are as many as it has, and its text in hexadecimal. Assumes nothing.
-use Rattle.std.proofs.Common.{◌≡◌, ℕ, zero, suc, ◌+◌, ◌-◌, ◌/◌, ◌%◌, ◌<◌, ◌≤◌, List, length, set, sym, refl, add-one, arith, length-append, lt-ltb}
+use Rattle.std.proofs.Common.{◌≡◌, ℕ, zero, suc, ◌+◌, ◌-◌, ◌/◌, ◌%◌, ◌<◌, ◌≤◌, ◌*◌, ◌^◌, Option, Some, None, IfNone, IfSome, MatchOption, List, length, set, sym, refl, add-one, arith, length-append, lt-ltb}
 use Rattle.model.specs.Bytes.{placed}
 use Rattle.model.specs.Replay.{decimal, hex_digit, hex_digits}
 use Rattle.model.proofs.Decimal.{by_last_digit, decimal_one_digit, decimal_last_digit, decimal_one_longer, hex_last_digit}
+use native.Mathlib.Nat.{pow-succ'}
 use Rattle.text.specs.Digits.{digits_in}
 use Rattle.text.proofs.WrittenLaws.{last_placed_first}
 
@@ -42,3 +43,17 @@ digit_placed base at (suc k) left target some fits =
     let before : suc k - 1 ≡ k = omega arith in
     let long : length (digits_in base k (left / base)) ≡ k = digits_in_length base k (left / base) in
     rw before (rw long at (last_placed_first at (digits_in base k (left / base)) (hex_digit (left % base)) target (rw long (omega arith))))
+
+-- a number from a power of ten on and below the next has a digit more than the power
+pub decimal_by_power : (k n : ℕ) → 10 ^ k ≤ n → n < 10 * 10 ^ k → length (decimal n) ≡ k + 1
+decimal_by_power zero n least most = rw (decimal_one_digit n (omega arith)) refl
+decimal_by_power (suc k) n least most =
+    let least' : 10 * 10 ^ k ≤ n = rw pow-succ' at least in
+    let most' : n < 10 * (10 * 10 ^ k) = rw pow-succ' at most in
+    let h : length (decimal (n / 10)) ≡ k + 1 = decimal_by_power k (n / 10) (omega arith) (omega arith) in
+    rw (decimal_one_longer n (omega arith), h) (omega arith)
+
+pub digits_by_power : (n count : ℕ) (power : Option ℕ) → IfNone power (n ≡ 0) → IfSome power (λ k. 10 ^ k ≤ n) → IfSome power (λ k. n < 10 * 10 ^ k)
+    → MatchOption power (count ≡ 1) (λ k. count ≡ k + 1) → count ≡ length (decimal n)
+digits_by_power n count None none least most is = rw (is, decimal_one_digit n (omega (arith, none))) refl
+digits_by_power n count (Some k) none least most is = rw (is, decimal_by_power k n least most) refl

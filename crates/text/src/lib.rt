@@ -1,5 +1,7 @@
 // Numbers as text in lent bytes. Each public function writes from a place on and answers the place behind what it wrote.
 // It takes any target, any place and any number. Where the target is too short, refusal 2: it answers None, and nothing is written.
+// The digits are not the kit's: `itoa` writes them into 40 bytes of its own, so room and copy would stay here, and promises std's `decimal`,
+// which is not the model's; `hex` writes a number's bytes, whose digits would have to be shown to be the number's. The loop is two lines.
 #![tactic(auto)]
 
 ghost use Rattle.std.specs.Prelude.{◌≡◌, ◌+◌, ◌<◌, [], ◌∷◌, length, nat_le};
@@ -7,7 +9,8 @@ ghost use Rattle.model.specs.Replay.{decimal, signed_decimal, hex_digit, hex_dig
 ghost use Rattle.text.specs.Digits.{digits_in, Base};
 ghost use Rattle.text.specs.Promises.{Written};
 
-// Whether so many bytes from a place on lie inside so many.
+// Whether so many bytes from a place on lie inside so many. (In `lines`, `tape_writer` and `tape_windows` the like test counts in numbers
+// or words: one function for all would have to take these units too.)
 fn has_room(len: usize, at: usize, bytes: usize) -> bool
     ensures { result ≡ nat_le (at + bytes) len }
 {
@@ -18,14 +21,7 @@ fn has_room(len: usize, at: usize, bytes: usize) -> bool
 fn digits(n: u64) -> usize
     ensures { result ≡ length (decimal n) }
 {
-    let mut count = 1;
-    let mut left = n;
-    // No `for`: how many divisions there are is what is asked.
-    while left >= 10 {
-        left /= 10;
-        count += 1;
-    }
-    count
+    n.checked_ilog10().map_or(1, |power| power as usize + 1)
 }
 
 // 0 to 9, then a to f.
@@ -50,6 +46,7 @@ fn put_digits(out: &mut [u8], at: usize, count: usize, base: u64, n: u64) -> Opt
         return None;
     }
     let mut left = n;
+    // By places: of what a loop over `iter_mut().rev()` writes, no contract says a value, so the proof doesn't close.
     for i in (0..count).rev() {
         out[at + i] = digit(left % base);
         left /= base;

@@ -7,19 +7,34 @@ use text::{put_byte, put_decimal, put_hex, put_signed};
 
 const SIZE: usize = 24;
 
-// Whether what is put at a place ends where the target ends and is as expected, and has no room one place later, where the
-// target stays all dots.
-fn just_fits<F: Fn(&mut [u8], usize) -> Option<usize>>(put: F, at: usize, expected: &[u8]) -> bool
-    requires { F.IsAlwaysCallable put }
+// Whether a number that is put at a place ends where the target ends and is as expected, and has no room one place later,
+// where the target stays all dots.
+fn just_fits<T: Copy, F: Fn(&mut [u8], usize, T) -> Option<usize>>(
+    put: &F,
+    number: T,
+    at: usize,
+    expected: &[u8; SIZE],
+) -> bool
+    requires { F.IsAlwaysCallable put.now }
 {
     if at >= SIZE {
         return false;
     }
     let mut out = [b'.'; SIZE];
-    let first = put(&mut out, at);
+    let first = put(&mut out, at, number);
     let mut short = [b'.'; SIZE];
-    let second = put(&mut short, at + 1);
-    first == Some(SIZE) && out.as_slice() == expected && refused(second, &short)
+    let second = put(&mut short, at + 1, number);
+    first == Some(SIZE) && out == *expected && refused(second, &short)
+}
+
+// Whether each number does, at its place and with what is expected there.
+fn all_fit<T: Copy, F: Fn(&mut [u8], usize, T) -> Option<usize>>(
+    put: F,
+    vectors: &[(T, usize, &[u8; SIZE])],
+) -> bool
+    requires { F.IsAlwaysCallable put }
+{
+    vectors.iter().all(|&(number, at, expected)| just_fits(&put, number, at, expected))
 }
 
 // Whether the answer is that there is no room, and the target is all dots.
@@ -32,55 +47,60 @@ fn behind(answer: Option<usize>) -> usize {
     answer.unwrap_or(usize::MAX)
 }
 
-fn decimal(n: u64, at: usize, expected: &[u8]) -> bool {
-    just_fits(|out, at| put_decimal(out, at, n), at, expected)
-}
-
-fn signed(n: i64, at: usize, expected: &[u8]) -> bool {
-    just_fits(|out, at| put_signed(out, at, n), at, expected)
-}
-
-fn hex(bits: u32, expected: &[u8]) -> bool {
-    just_fits(|out, at| put_hex(out, at, bits), 16, expected)
-}
-
-fn byte(b: u8, expected: &[u8]) -> bool {
-    just_fits(|out, at| put_byte(out, at, b), 23, expected)
-}
-
 fn decimals() -> bool {
-    decimal(0, 23, b".......................0")
-        && decimal(9, 23, b".......................9")
-        && decimal(10, 22, b"......................10")
-        && decimal(99, 22, b"......................99")
-        && decimal(100, 21, b".....................100")
-        && decimal(4294967295, 14, b"..............4294967295")
-        && decimal(9999999999999999999, 5, b".....9999999999999999999")
-        && decimal(10000000000000000000, 4, b"....10000000000000000000")
-        && decimal(18446744073709551615, 4, b"....18446744073709551615")
+    all_fit(
+        put_decimal,
+        &[
+            (0, 23, b".......................0"),
+            (9, 23, b".......................9"),
+            (10, 22, b"......................10"),
+            (99, 22, b"......................99"),
+            (100, 21, b".....................100"),
+            (4294967295, 14, b"..............4294967295"),
+            (9999999999999999999, 5, b".....9999999999999999999"),
+            (10000000000000000000, 4, b"....10000000000000000000"),
+            (18446744073709551615, 4, b"....18446744073709551615"),
+        ],
+    )
 }
 
 fn signed_ones() -> bool {
-    signed(0, 23, b".......................0")
-        && signed(7, 23, b".......................7")
-        && signed(-1, 22, b"......................-1")
-        && signed(-10, 21, b".....................-10")
-        && signed(9223372036854775807, 5, b".....9223372036854775807")
-        && signed(-9223372036854775807, 4, b"....-9223372036854775807")
-        && signed(-9223372036854775808, 4, b"....-9223372036854775808")
+    all_fit(
+        put_signed,
+        &[
+            (0, 23, b".......................0"),
+            (7, 23, b".......................7"),
+            (-1, 22, b"......................-1"),
+            (-10, 21, b".....................-10"),
+            (9223372036854775807, 5, b".....9223372036854775807"),
+            (-9223372036854775807, 4, b"....-9223372036854775807"),
+            (-9223372036854775808, 4, b"....-9223372036854775808"),
+        ],
+    )
 }
 
 fn patterns() -> bool {
-    hex(0, b"................00000000")
-        && hex(0xffff_ffff, b"................ffffffff")
-        && hex(0x8000_0000, b"................80000000")
-        && hex(0x7fc0_0000, b"................7fc00000")
-        && hex(0x0123_4567, b"................01234567")
-        && hex(0x89ab_cdef, b"................89abcdef")
+    all_fit(
+        put_hex,
+        &[
+            (0, 16, b"................00000000"),
+            (0xffff_ffff, 16, b"................ffffffff"),
+            (0x8000_0000, 16, b"................80000000"),
+            (0x7fc0_0000, 16, b"................7fc00000"),
+            (0x0123_4567, 16, b"................01234567"),
+            (0x89ab_cdef, 16, b"................89abcdef"),
+        ],
+    )
 }
 
 fn bytes() -> bool {
-    byte(b' ', b"....................... ") && byte(b'P', b".......................P")
+    all_fit(
+        put_byte,
+        &[
+            (b' ', 23, b"....................... "),
+            (b'P', 23, b".......................P"),
+        ],
+    )
 }
 
 // A place outside the target, whose sum with a length would not be a number of 64 bits.

@@ -1,10 +1,7 @@
 -- The display after a row: it stays with adaptive off or with no finite value, else the estimates move toward the row's levels. Assumes nothing.
-use Rattle.std.proofs.Common.{◌≡◌, ℕ, None, Some, ◌+◌, ◌-◌, ◌≤◌, true, false, eqb, List, ◌++◌, length, take, drop, ap, ◌∙◌, arith, length-drop, take-append-drop, length-take-le, take_all}
-use lib.Seq.{take-append-le}
+use Rattle.std.proofs.Common.{◌≡◌, Option, None, Some, MatchOption, true, false, eqb, List, length, sym, ◌∙◌}
 use lib.Ieee.{Float}
 use Rattle.model.specs.Scaling.{Display, finite_values, row_floor, row_top, estimates_toward, display_after}
-use borrow.Rule.Slice.PartMut.{post_of, put_mid}
-use Rattle.model.proofs.ListLaws.{alike_appended}
 use Rattle.model.proofs.BoolLaws.{by_test, clash}
 use Rattle.spectrum_utils.specs.declared.FloorAndTop.{FloorAndTop}
 use Rattle.spectrum_utils.specs.Estimates.{row_estimate}
@@ -31,18 +28,8 @@ module _ (row : List Float) (d : Display) (on : d.adaptive ≡ true) where
       let f : levels ≡ record { floor = row_floor row; top = row_top row } = cc in
       rw (on, some-finite, f))
 
--- ---- the end of a list, lent and put back
-
-pub whole_end : (at : ℕ) (xs : List Float) → take (length xs - at) (drop at xs) ≡ drop at xs
-whole_end at xs = take_all (length xs - at) (drop at xs) (simp length-drop (omega arith))
-
--- what stays in front of the lent end, and in its first places, stays in the list
-pub front_put_back : (at work : ℕ) (xs ys : List Float) → at ≤ work → work ≤ length xs → length ys ≡ length (take (length xs - at) (drop at xs))
-    → take (work - at) ys ≡ take (work - at) (take (length xs - at) (drop at xs)) → take work (put_mid at (length xs - at) xs ys) ≡ take work xs
-front_put_back at work xs ys le fits as_long alike =
-    let long : length ys ≡ length xs - at = rw (whole_end at xs, length-drop) at as_long in
-    let front : length (take at xs) ≡ at = length-take-le at xs (omega arith) in
-    let m : length (take at xs) + (work - at) ≡ work = omega (arith, front) in
-    let post = post_of at (length xs - at) xs in
-    let inner = take-append-le (work - at) ys post (omega (arith, long)) ∙ alike ∙ ap (take (work - at)) (whole_end at xs) in
-    rw (m, take-append-drop) at (alike_appended (take at xs) (ys ++ post) (drop at xs) (work - at) inner)
+-- as an estimate that may be absent tells it
+pub follows_estimate : (row : List Float) (d r : Display) (levels : Option FloorAndTop) → d.adaptive ≡ true → levels ≡ row_estimate row
+    → MatchOption levels (r ≡ d) (λ x. r ≡ estimates_toward x.floor x.top d) → r ≡ display_after row d
+follows_estimate row d r None on is answer = answer ∙ stays_with_none_finite row d on (sym is)
+follows_estimate row d r (Some levels) on is answer = answer ∙ moves_toward_levels row d on levels (sym is)

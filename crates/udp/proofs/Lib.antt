@@ -1,4 +1,3 @@
 pub mod Smoothing
 pub mod Adaptive
-pub mod CountsAsked
 pub mod CountsHeld

@@ -3,19 +3,17 @@
 // Every float of a row may be a NaN.
 #![tactic(auto)]
 
-ghost use Rattle.std.specs.Prelude.{◌≡◌, ◌+◌, ◌*◌, length, take, nat_le};
-ghost use Rattle.model.specs.Bytes.{part};
+ghost use Rattle.std.specs.Prelude.{◌≡◌, ◌*◌, ◌≤◌, length, take, nat_le};
 ghost use Rattle.model.specs.Counts.{fresh_counts, counted};
-ghost use Rattle.model.specs.Scaling.{smoothed, smoothing_after, estimated, estimates_toward, shown_top, shown_range};
+ghost use Rattle.model.specs.Scaling.{smoothing_after, display_after, estimated, estimates_toward, shown_top, shown_range};
 ghost use Rattle.model.specs.Questions.{most_calls, stream_held};
-ghost use Rattle.areas.specs.Parts.{zipped_at};
-ghost use Rattle.spectrum_utils.specs.Promises.{Behind, Updated};
+ghost use Rattle.spectrum_utils.specs.Promises.{InFront};
 ghost use Rattle.udp.specs.Requires.{CountsFit};
 ghost use Rattle.udp.specs.Views.{counts_of, display_of};
-ghost use Rattle.udp.specs.Displays.{RowAt, AdaptiveUpdated};
 
 use jitter_asking::counter_held;
 use spectrum_utils::FloorAndTop;
+use std::cmp::Ordering;
 
 // How fast the estimates follow a row.
 const ADAPTIVE_NORMALIZATION_ALPHA: f32 = 0.05;
@@ -51,6 +49,7 @@ impl StreamCounts {
     }
 
     // Question 3 for a stream's counts: whether a receiver of so many accepted calls could hold them.
+    #[tactic(auto, unfolding(model::specs::Questions::stream_held, model::specs::Bytes::all))]
     pub fn could_be_held(self, calls: u64) -> bool
         ensures { result ≡ stream_held (calls * most_calls) (counts_of self) }
     {
@@ -82,49 +81,34 @@ pub fn update_sequence_stats(counts: StreamCounts, sequence: u32) -> StreamCount
         return after;
     };
     let expected = previous.wrapping_add(1);
-    if sequence > expected {
-        return StreamCounts {
+    match sequence.cmp(&expected) {
+        Ordering::Greater => StreamCounts {
             dropped: counts.dropped + ((sequence - expected) as u64),
             ..after
-        };
-    }
-    if sequence < expected {
-        return StreamCounts {
+        },
+        Ordering::Less => StreamCounts {
             late: counts.late + 1,
             ..after
-        };
+        },
+        Ordering::Equal => after,
     }
-    after
 }
 
-// Smooths a row into the running one: copied on a length change or at a weight of 1, else each bin moves toward the
-// row's. `rows` begins with the row's bins; the running row stands from `smooth` on, `len` bins of it in use. The answer
-// is how many are then.
-pub fn smooth_row(rows: &mut [f32], bins: usize, smooth: usize, len: usize, smoothing: f32) -> usize
-    requires { Behind bins smooth len (length rows.old) }
-    ensures { Updated smooth (smoothing_after smoothing (take bins rows.old) (part smooth len rows.old)) rows.old rows.new result }
+// Smooths a row into the running one: copied on a length change or at a weight of 1, else each bin moves toward the row's.
+// `smooth` has room for the row's bins, and `len` of its values are in use. The answer is how many are then.
+pub fn smooth_row(row: &[f32], smooth: &mut [f32], len: usize, smoothing: f32) -> usize
+    requires { (length row.now ≤ length smooth.old) × (len ≤ length smooth.old) }
+    ensures { InFront (smoothing_after smoothing row.now (take len smooth.old)) smooth.old smooth.new result }
 {
     let w = 1.0 - 0.9 * floats::clamp(smoothing, 0.0, 1.0);
-    if len != bins {
-        areas::move_up(rows, 0, smooth, bins);
+    let bins = row.len();
+    let shown = &mut smooth[..bins];
+    if len != bins || w >= 1.0 {
+        shown.copy_from_slice(row);
         return bins;
     }
-    if w >= 1.0 {
-        areas::move_up(rows, 0, smooth, bins);
-        return bins;
-    }
-    move_toward(rows, bins, smooth, w);
+    spectrum_utils::zip_in_place(shown, row, |old, new| old + w * (new - old));
     bins
-}
-
-// Each bin moves by the weight w toward the row's.
-fn move_toward(rows: &mut [f32], bins: usize, smooth: usize, w: f32)
-    requires { Behind bins smooth bins (length rows.old) }
-    ensures { rows.new ≡ zipped_at (smoothed w) smooth bins rows.old }
-{
-    for i in 0..bins {
-        rows[smooth + i] = rows[smooth + i] + w * (rows[i] - rows[smooth + i]);
-    }
 }
 
 // Display settings and running estimates of a channel.
@@ -140,27 +124,19 @@ pub struct Display {
     pub range_estimate: f32,
 }
 
-// With adaptive on, the estimates follow the row of so many bins from `row_db` on, if it has finite values. With it off
-// nothing is worked out. What stands from `work` on is free afterwards.
-pub fn update_adaptive_waterfall_display(
-    display: Display,
-    rows: &mut [f32],
-    row_db: usize,
-    bins: usize,
-    work: usize,
-) -> Display
-    requires { RowAt row_db bins work (length rows.old) }
-    ensures { AdaptiveUpdated row_db bins work rows.old rows.new display result }
+// With adaptive on, the estimates follow the row, if it has finite values. With it off nothing is worked out. The contents
+// of `work` are free afterwards.
+pub fn update_adaptive_waterfall_display(display: Display, row: &[f32], work: &mut [f32]) -> Display
+    requires { (length row.now ≤ 65535) × (length row.now ≤ length work.old) }
+    ensures { display_of result ≡ display_after row.now (display_of display) }
 {
     if !display.adaptive {
         return display;
     }
-    let room = work - row_db;
-    let estimate = spectrum_utils::estimate_row_floor_and_top_db(&mut rows[row_db..], bins, room);
-    let Some(levels) = estimate else {
-        return display;
-    };
-    estimates_toward(display, levels)
+    spectrum_utils::estimate_row_floor_and_top_db(row, work).map_or(
+        display,
+        |levels| estimates_toward(display, levels),
+    )
 }
 
 // One estimate moved toward a row's value.
@@ -190,6 +166,7 @@ fn estimates_toward(display: Display, levels: FloorAndTop) -> Display
 }
 
 // The top that a row is drawn with.
+#[tactic(auto, using(model::proofs::Constants::f_three), unfolding(model::specs::Scaling::shown_top, model::specs::Scaling::adaptive_top))]
 pub fn shown_top(display: Display) -> f32
     ensures { result ≡ shown_top (display_of display) }
 {
@@ -200,6 +177,7 @@ pub fn shown_top(display: Display) -> f32
 }
 
 // The range that a row is drawn with.
+#[tactic(auto, unfolding(model::specs::Scaling::shown_range))]
 pub fn shown_range(display: Display) -> f32
     ensures { result ≡ shown_range (display_of display) }
 {

@@ -1,2 +1,3 @@
-pub mod Views
 pub mod Promises
+pub mod StreamTypes
+pub mod Views

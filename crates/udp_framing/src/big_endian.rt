@@ -28,13 +28,15 @@ fn bytes_at<const N: usize>(packet: &[u8], at: usize) -> [u8; N]
 }
 
 // Writes the bytes from a place on.
-fn place_bytes(target: &mut [u8], at: usize, bytes: &[u8])
+pub fn place_bytes(target: &mut [u8], at: usize, bytes: &[u8])
     requires { at + length bytes.now ≤ length target.old }
     ensures { target.new ≡ placed at bytes.now target.old }
 {
     target[at..at + bytes.len()].copy_from_slice(bytes);
 }
 
+// An impl for each width: `from_be_bytes` and `to_be_bytes` are each type's own, of no trait of the library, and an impl that a macro of
+// the repository writes is refused.
 impl BigEndian for u8 {
     ghost width = { 1 };
 

@@ -8,6 +8,7 @@ pub mod words;
 ghost use Rattle.std.specs.Prelude.{◌≡◌, ◌≤◌, length};
 ghost use Rattle.model.specs.Bytes.{placed};
 ghost use Rattle.model.specs.Framing.{header_length, parse_header, valid_header, audio_start, audio_send_time, build_request, build_response, parse_request, parse_response};
+ghost use Rattle.udp_framing.specs.StreamTypes.{stream_number, Numbered};
 ghost use Rattle.udp_framing.specs.Views.{header_of, header_found, send_time_found, or_refusal, request_answer, response_answer};
 ghost use Rattle.udp_framing.specs.Promises.{header_bytes, BuiltAs, TimePacketAsked, Measured};
 
@@ -22,21 +23,52 @@ pub const MAGIC: u16 = 0x5253;
 // the time-sync packets. Version 1 is still valid.
 pub const VERSION: u8 = 2;
 
-pub const STREAM_TYPE_AUDIO: u8 = 1;
+// What a datagram carries. A header keeps any number: one that is none of these is of a type that this side does not know.
+#[derive(Clone, Copy, PartialEq, Eq, Debug)]
+pub enum StreamType {
+    Audio = 1,
+    Waterfall = 2,
+    AudioVfoB = 3,
+    WaterfallVfoB = 4,
+    RegisterAudio = 10,
+    MicAudio = 11,
+    // The probe of a clock: the header, whose sequence is the probe's number, and t1.
+    TimeSyncRequest = 12,
+    // The answer to a probe: the header with the probe's number, t1, t2 and t3.
+    TimeSyncResponse = 13,
+}
 
-pub const STREAM_TYPE_WATERFALL: u8 = 2;
+// A number that is of no stream type.
+#[derive(Clone, Copy, PartialEq, Eq, Debug)]
+pub struct UnknownStreamType(pub u8);
 
-pub const STREAM_TYPE_AUDIO_VFO_B: u8 = 3;
+impl From<StreamType> for u8 {
+    ghost from_gives = { λ t n. n ≡ stream_number t };
 
-pub const STREAM_TYPE_WATERFALL_VFO_B: u8 = 4;
+    fn from(t: StreamType) -> u8 {
+        t as u8
+    }
+}
 
-pub const STREAM_TYPE_REGISTER_AUDIO: u8 = 10;
+impl TryFrom<u8> for StreamType {
+    type Error = UnknownStreamType;
 
-pub const STREAM_TYPE_MIC_AUDIO: u8 = 11;
-// The probe of a clock: the header, whose sequence is the probe's number, and t1.
-pub const STREAM_TYPE_TIME_SYNC_REQUEST: u8 = 12;
-// The answer to a probe: the header with the probe's number, t1, t2 and t3.
-pub const STREAM_TYPE_TIME_SYNC_RESPONSE: u8 = 13;
+    ghost try_from_gives = { Numbered };
+
+    fn try_from(n: u8) -> Result<StreamType, UnknownStreamType> {
+        match n {
+            1 => Ok(StreamType::Audio),
+            2 => Ok(StreamType::Waterfall),
+            3 => Ok(StreamType::AudioVfoB),
+            4 => Ok(StreamType::WaterfallVfoB),
+            10 => Ok(StreamType::RegisterAudio),
+            11 => Ok(StreamType::MicAudio),
+            12 => Ok(StreamType::TimeSyncRequest),
+            13 => Ok(StreamType::TimeSyncResponse),
+            _ => Err(UnknownStreamType(n)),
+        }
+    }
+}
 
 // The header's bytes.
 pub const HEADER_LEN: usize = 16;
@@ -73,7 +105,7 @@ pub fn parse_media_header(packet: &[u8]) -> Option<MediaHeader>
 pub fn is_valid_header(header: MediaHeader) -> bool
     ensures { result ≡ valid_header (header_of header) }
 {
-    header.magic == MAGIC && header.version >= 1 && header.version <= VERSION
+    header.magic == MAGIC && (1..=VERSION).contains(&header.version)
 }
 
 // Where the samples of an audio datagram of that version begin.
@@ -99,13 +131,13 @@ pub fn audio_send_wall_ns(header: MediaHeader, packet: &[u8]) -> Option<u64>
 }
 
 // Writes a header of the version that is built at the front of the target.
-fn push_header(target: &mut [u8], stream_type: u8, sequence: u32, timestamp: u64)
+fn push_header(target: &mut [u8], stream_type: StreamType, sequence: u32, timestamp: u64)
     requires { 16 ≤ length target.old }
-    ensures { target.new ≡ placed 0 (header_bytes stream_type sequence timestamp) target.old }
+    ensures { target.new ≡ placed 0 (header_bytes (stream_number stream_type) sequence timestamp) target.old }
 {
     MAGIC.write_to(target, 0);
     VERSION.write_to(target, 2);
-    stream_type.write_to(target, 3);
+    u8::from(stream_type).write_to(target, 3);
     sequence.write_to(target, 4);
     timestamp.write_to(target, 8);
 }
@@ -123,20 +155,18 @@ pub fn build_time_sync_request(
     if target.len() < HEADER_LEN + 8 {
         return Err(Refusal::NoRoom);
     }
-    push_header(target, STREAM_TYPE_TIME_SYNC_REQUEST, probe_id, 0);
+    push_header(target, StreamType::TimeSyncRequest, probe_id, 0);
     t1_ns.write_to(target, 16);
     Ok(24)
 }
 
 // The header of a time-sync packet, which has that type and so many bytes or more.
-fn time_header(packet: &[u8], stream_type: u8, size: usize) -> Result<MediaHeader, Refusal>
+fn time_header(packet: &[u8], stream_type: StreamType, size: usize) -> Result<MediaHeader, Refusal>
     requires { header_length ≤ size }
-    ensures { TimePacketAsked stream_type size packet.now result }
+    ensures { TimePacketAsked (stream_number stream_type) size packet.now result }
 {
-    let Some(header) = parse_media_header(packet) else {
-        return Err(Refusal::NotTimePacket);
-    };
-    if header.stream_type != stream_type || packet.len() < size {
+    let header = parse_media_header(packet).ok_or(Refusal::NotTimePacket)?;
+    if header.stream_type != u8::from(stream_type) || packet.len() < size {
         return Err(Refusal::NotTimePacket);
     }
     Ok(header)
@@ -153,7 +183,7 @@ pub struct TimeSyncRequest {
 pub fn parse_time_sync_request(packet: &[u8]) -> Result<TimeSyncRequest, Refusal>
     ensures { request_answer result ≡ or_refusal 10 (parse_request packet.now) }
 {
-    let header = time_header(packet, STREAM_TYPE_TIME_SYNC_REQUEST, HEADER_LEN + 8)?;
+    let header = time_header(packet, StreamType::TimeSyncRequest, HEADER_LEN + 8)?;
     Ok(TimeSyncRequest {
         probe_id: header.sequence,
         t1_ns: u64::read_from(packet, HEADER_LEN),
@@ -174,7 +204,7 @@ pub fn build_time_sync_response(
     if target.len() < HEADER_LEN + 24 {
         return Err(Refusal::NoRoom);
     }
-    push_header(target, STREAM_TYPE_TIME_SYNC_RESPONSE, probe_id, 0);
+    push_header(target, StreamType::TimeSyncResponse, probe_id, 0);
     t1_ns.write_to(target, 16);
     t2_ns.write_to(target, 24);
     t3_ns.write_to(target, 32);
@@ -194,7 +224,7 @@ pub struct TimeSyncResponse {
 pub fn parse_time_sync_response(packet: &[u8]) -> Result<TimeSyncResponse, Refusal>
     ensures { response_answer result ≡ or_refusal 10 (parse_response packet.now) }
 {
-    let header = time_header(packet, STREAM_TYPE_TIME_SYNC_RESPONSE, HEADER_LEN + 24)?;
+    let header = time_header(packet, StreamType::TimeSyncResponse, HEADER_LEN + 24)?;
     Ok(TimeSyncResponse {
         probe_id: header.sequence,
         t1_ns: u64::read_from(packet, 16),

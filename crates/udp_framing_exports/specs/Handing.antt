@@ -1,9 +1,12 @@
 -- How values that may be missing go to a caller in another language: a bool, and numbers in a lent slice. Assumes nothing.
-use Rattle.std.specs.Prelude.{ℕ, ◌≡◌, Bool, true, false, List, [], ◌∷◌, length}
+use Rattle.std.specs.Prelude.{ℕ, ◌≡◌, Bool, true, false, List, [], ◌∷◌, length, None, Some}
+use Rattle.std.specs.Prelude.{Option as Found}
 use Rattle.std.proofs.Math.Option.{Option, none, some}
 use Rattle.std.proofs.lemmas.List.Edits.{sets}
 use Rattle.model.specs.Bytes.{written_into}
 use Rattle.model.specs.Framing.{Header, TimeRequest, TimeResponse}
+use Rattle.udp_framing.specs.declared.TimeSyncRequest.{TimeSyncRequest}
+use Rattle.udp_framing.specs.declared.TimeSyncResponse.{TimeSyncResponse}
 use Rattle.udp_framing.specs.Promises.{or_unchanged}
 
 abbrev pub is_there : {A : Type 0} → Option A → Bool
@@ -14,6 +17,11 @@ is_there (some a) = true
 abbrev pub numbers_in : {A : Type 0} → (A → List ℕ) → Option A → List ℕ
 numbers_in numbers_of none = []
 numbers_in numbers_of (some a) = numbers_of a
+
+-- the numbers that stand for a value, where there is one
+abbrev pub numbers_found : Found (List ℕ) → Option (List ℕ)
+numbers_found None = none
+numbers_found (Some l) = some l
 
 abbrev pub header_numbers : Header → List ℕ
 header_numbers h = h.magic ∷ h.version ∷ h.stream_type ∷ h.sequence ∷ h.timestamp ∷ []
@@ -26,6 +34,12 @@ request_numbers r = r.probe ∷ r.t1 ∷ []
 
 abbrev pub response_numbers : TimeResponse → List ℕ
 response_numbers r = r.probe ∷ r.t1 ∷ r.t2 ∷ r.t3 ∷ []
+
+abbrev pub request_of : TimeSyncRequest → TimeRequest
+request_of q = record { probe = q.probe_id; t1 = q.t1_ns }
+
+abbrev pub response_of : TimeSyncResponse → TimeResponse
+response_of q = record { probe = q.probe_id; t1 = q.t1_ns; t2 = q.t2_ns; t3 = q.t3_ns }
 
 -- whether a value is there, and its numbers from the front of a slice on, as far as it goes
 pub record HandedFrom {A : Type 0} (numbers_of : A → List ℕ) (value : Option A) (entry exit : List ℕ) (r : Bool) : Type 0 where

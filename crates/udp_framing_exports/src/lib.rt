@@ -1,34 +1,49 @@
 // udp_framing for callers in other languages: numbers go as themselves, and a value of several numbers into a slice
-// that the caller lends. What the slice has no room for is left out.
+// that the caller lends. What the slice has no room for is left out. Times and a probe's number go in one by one, as those
+// languages hand them over.
 #![tactic(auto)]
 
 ghost use Rattle.std.specs.Prelude.{◌≡◌};
 ghost use Rattle.model.specs.Framing.{parse_header, valid_header, audio_start, audio_send_time, build_request, build_response, parse_request, parse_response};
 ghost use Rattle.model.specs.Clock.{probe_offset, probe_round_trip};
 ghost use Rattle.udp_framing.specs.Views.{header_of};
-ghost use Rattle.udp_framing_exports.specs.Handing.{header_with, header_numbers, time_numbers, request_numbers, response_numbers, HandedFrom, BuiltOr0};
+ghost use Rattle.udp_framing_exports.specs.Handing.{header_with, header_numbers, time_numbers, request_numbers, response_numbers, request_of, response_of, numbers_found, HandedFrom, BuiltOr0};
 
 use calls::ProbeTimes;
 use numbers::put;
 use udp_framing::MediaHeader;
+
+// A value's numbers at the front of the slice, and whether there is a value.
+fn handed<const N: usize>(numbers: &mut [u64], fields: Option<[u64; N]>) -> bool
+    ensures { HandedFrom (λ l. l) (numbers_found fields.entry) numbers.old numbers.new result }
+{
+    let Some(found) = fields else {
+        return false;
+    };
+    put(numbers, 0, &found);
+    true
+}
 
 // Magic, version, stream type, sequence and timestamp.
 #[unsafe(no_mangle)]
 pub extern "C" fn udp_framing_parse_media_header(packet: &[u8], numbers: &mut [u64]) -> bool
     ensures { HandedFrom header_numbers (parse_header packet.now) numbers.old numbers.new result }
 {
-    let Some(header) = udp_framing::parse_media_header(packet) else {
-        return false;
-    };
-    let fields = [
-        header.magic as u64,
-        header.version as u64,
-        header.stream_type as u64,
-        header.sequence as u64,
-        header.timestamp,
-    ];
-    put(numbers, 0, &fields);
-    true
+    let header = udp_framing::parse_media_header(packet);
+    let fields = header.map(
+        |h|
+            ensures { result ≡ header_numbers (header_of h) }
+        {
+            [
+                h.magic as u64,
+                h.version as u64,
+                h.stream_type as u64,
+                h.sequence as u64,
+                h.timestamp,
+            ]
+        },
+    );
+    handed(numbers, fields)
 }
 
 // The header of which only magic and version matter.
@@ -67,11 +82,13 @@ pub extern "C" fn udp_framing_audio_send_wall_ns(
 ) -> bool
     ensures { HandedFrom time_numbers (audio_send_time (header_with 0 version) packet.now) numbers.old numbers.new result }
 {
-    let Some(n) = udp_framing::audio_send_wall_ns(header_with(0, version), packet) else {
-        return false;
-    };
-    put(numbers, 0, &[n]);
-    true
+    let time = udp_framing::audio_send_wall_ns(header_with(0, version), packet);
+    let fields = time.map(
+        |n|
+            ensures { result ≡ time_numbers n }
+        { [n] },
+    );
+    handed(numbers, fields)
 }
 
 // The number of bytes that were written; 0 where the target is too short.
@@ -105,13 +122,13 @@ pub extern "C" fn udp_framing_build_time_sync_response(
 pub extern "C" fn udp_framing_parse_time_sync_request(packet: &[u8], numbers: &mut [u64]) -> bool
     ensures { HandedFrom request_numbers (parse_request packet.now) numbers.old numbers.new result }
 {
-    match udp_framing::parse_time_sync_request(packet) {
-        Ok(r) => {
-            put(numbers, 0, &[r.probe_id as u64, r.t1_ns]);
-            true
-        }
-        Err(_) => false,
-    }
+    let request = udp_framing::parse_time_sync_request(packet).ok();
+    let fields = request.map(
+        |r|
+            ensures { result ≡ request_numbers (request_of r) }
+        { [r.probe_id as u64, r.t1_ns] },
+    );
+    handed(numbers, fields)
 }
 
 // The probe's number, t1, t2 and t3.
@@ -119,13 +136,13 @@ pub extern "C" fn udp_framing_parse_time_sync_request(packet: &[u8], numbers: &m
 pub extern "C" fn udp_framing_parse_time_sync_response(packet: &[u8], numbers: &mut [u64]) -> bool
     ensures { HandedFrom response_numbers (parse_response packet.now) numbers.old numbers.new result }
 {
-    match udp_framing::parse_time_sync_response(packet) {
-        Ok(r) => {
-            put(numbers, 0, &[r.probe_id as u64, r.t1_ns, r.t2_ns, r.t3_ns]);
-            true
-        }
-        Err(_) => false,
-    }
+    let response = udp_framing::parse_time_sync_response(packet).ok();
+    let fields = response.map(
+        |r|
+            ensures { result ≡ response_numbers (response_of r) }
+        { [r.probe_id as u64, r.t1_ns, r.t2_ns, r.t3_ns] },
+    );
+    handed(numbers, fields)
 }
 
 #[unsafe(no_mangle)]

@@ -1,5 +1,5 @@
 // Offset and round trip of RFC 5905, section 8, on plain times and on times near the wrap of 64 bits.
-use crate::tally::Tally;
+use crate::bench::Bench;
 use calls::ProbeTimes;
 use udp_framing::OffsetRtt;
 
@@ -16,11 +16,11 @@ fn clock(offset: i64, rtt: i64) -> OffsetRtt {
 }
 
 // The times of probes, each with what they come to.
-fn probes(t: &mut Tally, vectors: &[(ProbeTimes, OffsetRtt)]) {
+fn probes(b: &mut Bench, vectors: &[(ProbeTimes, OffsetRtt)]) {
     for &(times, expected) in vectors {
         let found = udp_framing::clock_offset_rtt(times);
         let ProbeTimes { t1, t2, t3, t4 } = times;
-        t.count(
+        b.count(
             format_args!(
                 "times {t1} {t2} {t3} {t4}: offset and round trip {} {}",
                 found.offset, found.rtt
@@ -30,9 +30,9 @@ fn probes(t: &mut Tally, vectors: &[(ProbeTimes, OffsetRtt)]) {
     }
 }
 
-fn plain(t: &mut Tally) {
+fn plain(b: &mut Bench) {
     probes(
-        t,
+        b,
         &[
             (sent(10, 5, 5, 11), clock(-5, 1)),
             (sent(1000, 1600, 1700, 1300), clock(500, 200)),
@@ -43,9 +43,9 @@ fn plain(t: &mut Tally) {
     );
 }
 
-fn near_the_wrap(t: &mut Tally) {
+fn near_the_wrap(b: &mut Bench) {
     probes(
-        t,
+        b,
         &[
             (sent(0, LAST, LAST, 1), clock(-2, 1)),
             (sent(LAST, 0, 0, LAST), clock(1, 0)),
@@ -58,7 +58,7 @@ fn near_the_wrap(t: &mut Tally) {
     );
 }
 
-pub(crate) fn run(t: &mut Tally) {
-    plain(t);
-    near_the_wrap(t);
+pub(crate) fn run(b: &mut Bench) {
+    plain(b);
+    near_the_wrap(b);
 }

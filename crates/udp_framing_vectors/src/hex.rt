@@ -1,4 +1,4 @@
-// Bytes as a line has them.
+// Bytes and numbers as a line has them.
 use std::fmt;
 
 // Two digits a byte.
@@ -9,6 +9,19 @@ impl fmt::Display for Hex<'_> {
     fn fmt<W: fmt::Write>(&self, f: &mut fmt::Formatter<W>) -> fmt::Result {
         for b in self.0 {
             write!(f, "{b:02x}")?;
+        }
+        Ok(())
+    }
+}
+
+// A space before each.
+#[derive(Clone, Copy)]
+pub(crate) struct Numbers<'a>(pub(crate) &'a [u64]);
+
+impl fmt::Display for Numbers<'_> {
+    fn fmt<W: fmt::Write>(&self, f: &mut fmt::Formatter<W>) -> fmt::Result {
+        for n in self.0 {
+            write!(f, " {n}")?;
         }
         Ok(())
     }

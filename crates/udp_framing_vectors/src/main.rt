@@ -4,16 +4,16 @@
 // the rules; the other values were written down from a run of the original.
 #![tactic(auto)]
 
+mod bench;
 mod clock;
 mod headers;
 mod hex;
 mod packets;
-mod tally;
 
 fn main(rt: HostRuntime) {
-    let mut t = tally::Tally::new(rt);
-    clock::run(&mut t);
-    headers::run(&mut t);
-    packets::run(&mut t);
-    t.sum_up();
+    let mut b = bench::Bench::new(rt);
+    clock::run(&mut b);
+    headers::run(&mut b);
+    packets::run(&mut b);
+    b.sum_up();
 }

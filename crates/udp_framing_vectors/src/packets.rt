@@ -1,12 +1,12 @@
 // Time-sync packets, byte by byte, and targets and packets that are a byte too short.
-use crate::hex::Hex;
-use crate::tally::Tally;
+use crate::bench::Bench;
+use crate::hex::{Hex, Numbers};
 use calls::Refusal;
 use udp_framing::{TimeSyncRequest, TimeSyncResponse};
 
 // What was answered, and what the target is then.
 fn built(
-    t: &mut Tally,
+    b: &mut Bench,
     answer: Result<usize, Refusal>,
     size: Result<usize, Refusal>,
     target: &[u8],
@@ -14,16 +14,16 @@ fn built(
 ) {
     let same = answer == size && target == expected;
     match answer {
-        Ok(n) => t.count(format_args!("built: {n} {}", Hex(target)), same),
-        Err(_) => t.count(format_args!("built: refused {}", Hex(target)), same),
+        Ok(n) => b.count(format_args!("built: {n} {}", Hex(target)), same),
+        Err(_) => b.count(format_args!("built: refused {}", Hex(target)), same),
     }
 }
 
-fn build_requests(t: &mut Tally) {
+fn build_requests(b: &mut Bench) {
     let mut target = [7u8; 26];
     let answer = udp_framing::build_time_sync_request(&mut target, 0x01020304, 0x1122334455667788);
     built(
-        t,
+        b,
         answer,
         Ok(24),
         &target,
@@ -31,10 +31,10 @@ fn build_requests(t: &mut Tally) {
     );
     let mut short = [7u8; 23];
     let refused = udp_framing::build_time_sync_request(&mut short, 1, 1);
-    built(t, refused, Err(Refusal::NoRoom), &short, &[7u8; 23]);
+    built(b, refused, Err(Refusal::NoRoom), &short, &[7u8; 23]);
 }
 
-fn build_responses(t: &mut Tally) {
+fn build_responses(b: &mut Bench) {
     let mut target = [7u8; 40];
     let answer = udp_framing::build_time_sync_response(
         &mut target,
@@ -44,7 +44,7 @@ fn build_responses(t: &mut Tally) {
         0x8000000000000000,
     );
     built(
-        t,
+        b,
         answer,
         Ok(40),
         &target,
@@ -52,57 +52,54 @@ fn build_responses(t: &mut Tally) {
     );
     let mut short = [7u8; 39];
     let refused = udp_framing::build_time_sync_response(&mut short, 1, 1, 1, 1);
-    built(t, refused, Err(Refusal::NoRoom), &short, &[7u8; 39]);
+    built(b, refused, Err(Refusal::NoRoom), &short, &[7u8; 39]);
 }
 
-fn request(t: &mut Tally, packet: &[u8], expected: Result<TimeSyncRequest, Refusal>) {
+// A packet's line, with the numbers of its fields where it was parsed.
+fn parsed<const N: usize>(
+    b: &mut Bench,
+    kind: &str,
+    packet: &[u8],
+    fields: Result<[u64; N], Refusal>,
+    same: bool,
+) {
+    let packet = Hex(packet);
+    match fields {
+        Ok(numbers) => b.count(format_args!("{kind}: {packet}{}", Numbers(&numbers)), same),
+        Err(_) => b.count(format_args!("{kind}: {packet} refused"), same),
+    }
+}
+
+// What is expected of a packet has another type for each kind, so that it is no struct with the packet.
+fn request(b: &mut Bench, packet: &[u8], expected: Result<TimeSyncRequest, Refusal>) {
     let found = udp_framing::parse_time_sync_request(packet);
-    let same = found == expected;
-    match found {
-        Ok(r) => t.count(
-            format_args!("request: {} {} {}", Hex(packet), r.probe_id, r.t1_ns),
-            same,
-        ),
-        Err(_) => t.count(format_args!("request: {} refused", Hex(packet)), same),
-    }
+    let fields = found.map(|r| [u64::from(r.probe_id), r.t1_ns]);
+    parsed(b, "request", packet, fields, found == expected);
 }
 
-fn response(t: &mut Tally, packet: &[u8], expected: Result<TimeSyncResponse, Refusal>) {
+fn response(b: &mut Bench, packet: &[u8], expected: Result<TimeSyncResponse, Refusal>) {
     let found = udp_framing::parse_time_sync_response(packet);
-    let same = found == expected;
-    match found {
-        Ok(r) => t.count(
-            format_args!(
-                "response: {} {} {} {} {}",
-                Hex(packet),
-                r.probe_id,
-                r.t1_ns,
-                r.t2_ns,
-                r.t3_ns,
-            ),
-            same,
-        ),
-        Err(_) => t.count(format_args!("response: {} refused", Hex(packet)), same),
-    }
+    let fields = found.map(|r| [u64::from(r.probe_id), r.t1_ns, r.t2_ns, r.t3_ns]);
+    parsed(b, "response", packet, fields, found == expected);
 }
 
-fn parse(t: &mut Tally) {
+fn parse(b: &mut Bench) {
     let asked =
         b"\x52\x53\x02\x0c\x01\x02\x03\x04\x00\x00\x00\x00\x00\x00\x00\x00\x11\x22\x33\x44\x55\x66\x77\x88";
     let answered =
         b"\x00\x53\x09\x0d\xff\xff\xff\xfe\x00\x00\x00\x00\x00\x00\x00\x00\x00\x00\x00\x00\x00\x00\x00\x01\xff\xff\xff\xff\xff\xff\xff\xff\x80\x00\x00\x00\x00\x00\x00\x00";
     request(
-        t,
+        b,
         asked,
         Ok(TimeSyncRequest {
             probe_id: 16909060,
             t1_ns: 1234605616436508552,
         }),
     );
-    request(t, &asked[..23], Err(Refusal::NotTimePacket));
-    request(t, answered, Err(Refusal::NotTimePacket));
+    request(b, &asked[..23], Err(Refusal::NotTimePacket));
+    request(b, answered, Err(Refusal::NotTimePacket));
     response(
-        t,
+        b,
         answered,
         Ok(TimeSyncResponse {
             probe_id: 4294967294,
@@ -112,15 +109,15 @@ fn parse(t: &mut Tally) {
         }),
     );
     response(
-        t,
+        b,
         b"\x52\x53\x02\x0d\xff\xff\xff\xfe\x00\x00\x00\x00\x00\x00\x00\x00\x00\x00\x00\x00\x00\x00\x00\x01\xff\xff\xff\xff\xff\xff\xff\xff\x80\x00\x00\x00\x00\x00\x00",
         Err(Refusal::NotTimePacket),
     );
-    response(t, asked, Err(Refusal::NotTimePacket));
+    response(b, asked, Err(Refusal::NotTimePacket));
 }
 
-pub(crate) fn run(t: &mut Tally) {
-    build_requests(t);
-    build_responses(t);
-    parse(t);
+pub(crate) fn run(b: &mut Bench) {
+    build_requests(b);
+    build_responses(b);
+    parse(b);
 }

@@ -1,14 +1,14 @@
--- Question 3 of what a channel shows, and question 8, by the tests of the code; and the first is the model's question of the channel. Assumes nothing.
+-- Question 3 of what a channel shows is the model's question of the channel. Assumes nothing.
 use Rattle.std.proofs.Common.{Option, None, Some}
 use mathlib.Core.Path.{◌≡◌, refl, sym}
-use mathlib.Core.Bool.{Bool, true, false, not, ◌&&◌, beq}
+use mathlib.Core.Bool.{◌&&◌}
 use mathlib.Core.List.{List}
-use Prim.Native.Nat.{ℕ, ◌+◌, ◌-◌, ◌*◌, ◌≤◌, ◌<◌}
+use Prim.Native.Nat.{ℕ, ◌+◌, ◌*◌, ◌≤◌}
 use native.Mathlib.Omega.{arith}
 use lib.ListN.{length, length-take, length-drop}
 use lib.Dec.{leb}
 use lib.Ieee.{Float}
-use borrow.Author.Tests.{leb-true, leb-false, le-leb, lt-leb, lt-ltb, le-ltb}
+use borrow.Author.Tests.{leb-true, leb-false, le-leb, lt-leb}
 use Rattle.model.specs.Bytes.{part}
 use Rattle.model.specs.JitterBuffer.{Buffer}
 use Rattle.model.specs.Questions.{row_held}
@@ -19,35 +19,6 @@ use Rattle.reassembler.specs.declared.OpenRow.{OpenRow}
 use Rattle.udp_packets.specs.declared.Screen.{Screen}
 use Rattle.reassembler.specs.Rows.{row_of}
 use Rattle.udp_packets.specs.Packets.{row_asked, screen_asked, channel_of}
-
-beq_false : (b : Bool) → not b ≡ beq b false
-beq_false true = refl
-beq_false false = refl
-
-beq_true : (b : Bool) → b ≡ beq b true
-beq_true true = refl
-beq_true false = refl
-
-module _ (bins : ℕ) (r : OpenRow) where
-  pub too_many_bins : bins < r.total_bins → false ≡ row_asked bins (Some r)
-  unfolding row_asked
-  too_many_bins long = rw (lt-leb r.total_bins bins long)
-
-  pub not_yet_full : r.total_bins ≤ bins → r.filled < r.total_bins → not r.done ≡ row_asked bins (Some r)
-  unfolding row_asked
-  not_yet_full fits below =
-      rw (le-leb r.total_bins bins fits, lt-ltb r.filled (2 * r.total_bins) (omega arith), lt-leb r.total_bins r.filled below)
-      (beq_false r.done)
-
-  pub full : r.total_bins ≤ bins → r.total_bins ≤ r.filled → r.filled - r.total_bins < r.total_bins → r.done ≡ row_asked bins (Some r)
-  unfolding row_asked
-  full fits whole few =
-      rw (le-leb r.total_bins bins fits, lt-ltb r.filled (2 * r.total_bins) (omega arith), le-leb r.total_bins r.filled whole)
-      (beq_true r.done)
-
-  pub filled_twice : r.total_bins ≤ bins → r.total_bins ≤ r.filled → r.total_bins ≤ r.filled - r.total_bins → false ≡ row_asked bins (Some r)
-  unfolding row_asked
-  filled_twice fits whole twice = rw (le-leb r.total_bins bins fits, le-ltb r.filled (2 * r.total_bins) (omega arith))
 
 -- ---- the model's question of the channel
 

@@ -1,7 +1,7 @@
 pub mod Audio
 pub mod ChunkHandled
+pub mod RowParts
 pub mod ShowRow
 pub mod Screens
-pub mod RowParts
 pub mod Asked
 pub mod Fresh

@@ -1,61 +1,96 @@
--- The parts of a list that begins with a row, while a row is shown: the spectrum is placed from b on, what lies behind `work` is used freely, then smoothing is placed from 2 × b on. Assumes nothing.
-use mathlib.Core.Path.{◌≡◌, sym, ◌∙◌, ap}
-use mathlib.Core.List.{List}
-use Prim.Native.Nat.{ℕ, ◌+◌, ◌-◌, ◌*◌, ◌≤◌}
-use native.Mathlib.Nat.{add-zero}
+-- A list split into a row, the spectrum, smoothing, each b long, and the rest: its parts, and what is left where the fronts of the spectrum and of smoothing
+-- are written over and the rest is used freely behind its first k places. Assumes nothing.
+use mathlib.Core.Path.{◌≡◌, ◌∙◌, ap}
+use mathlib.Core.List.{List, ◌++◌}
+use Prim.Native.Nat.{ℕ, ◌+◌, ◌*◌, ◌≤◌}
 use native.Mathlib.Omega.{arith}
-use lib.ListN.{length, take}
-use lib.Seq.{take_all}
-use Rattle.model.specs.Bytes.{part, placed}
-use Rattle.model.proofs.ListLaws.{alike_shorter, alike_behind}
-use Rattle.areas.proofs.Placed.{part_before, part_behind, part_within}
+use lib.ListN.{length, take, drop, length-append, length-drop}
+use lib.Seq.{take_at, drop_at, take-append-le, take-take, drop-drop, length-take-le}
+use Rattle.model.specs.Bytes.{part}
 
--- the part that was placed
-placed_part {ℓ} : {X : Type ℓ} (d : X) (at n : ℕ) (ys xs : List X) → at + length ys ≤ length xs → length ys ≡ n → part at n (placed at ys xs) ≡ ys
-placed_part d at n ys xs inside long =
-    ap (λ (k : ℕ). part k n (placed at ys xs)) (sym (add-zero at))
-    ∙ part_within d at ys xs 0 n inside (omega arith)
-    ∙ take_all n ys (omega arith)
+module _ {ℓ} {X : Type ℓ} where
+  pub record RowSplit (b : ℕ) (rows front spectrum smooth rest : List X) : Type ℓ where
+    pub row_is : front ≡ take b rows
+    pub spectrum_is : spectrum ≡ take b (drop b rows)
+    pub smooth_is : smooth ≡ take b (drop (2 * b) rows)
+    pub rest_is : rest ≡ drop (3 * b) rows
 
-module _ {ℓ} {X : Type ℓ} (d : X) (b n work : ℕ) (rows spectrum used smooth : List X)
-    (few : n ≤ b) (behind : 3 * b ≤ work) (fits : work ≤ length rows)
-    (spectrum_length : length spectrum ≡ n) (smooth-length : length smooth ≡ n)
-    (free : take work used ≡ take work (placed b spectrum rows)) (as_long : length used ≡ length rows) where
-  -- after the spectrum
+  -- one part after the other
+  pub split_in_turn : (b : ℕ) (rows front behind spectrum behind' smooth rest : List X) → front ≡ take b rows → behind ≡ drop b rows
+      → spectrum ≡ take b behind → behind' ≡ drop b behind → smooth ≡ take b behind' → rest ≡ drop b behind' → RowSplit b rows front spectrum smooth rest
+  split_in_turn b rows front behind spectrum behind' smooth rest row_is behind_is spectrum_is behind'_is smooth_is rest_is =
+      let two : b + b ≡ 2 * b = omega arith in
+      let three : 2 * b + b ≡ 3 * b = omega arith in
+      let second : behind' ≡ drop (2 * b) rows = rw (behind'_is, behind_is, drop-drop, two) in
+      record {
+        row_is = row_is;
+        spectrum_is = rw (spectrum_is, behind_is);
+        smooth_is = rw (smooth_is, second);
+        rest_is = rw (rest_is, second, drop-drop, three);
+      }
 
-  pub raw_row : take n (placed b spectrum rows) ≡ take n rows
-  raw_row = part_before d b spectrum rows 0 n (omega arith) (omega arith)
+  module _ {b : ℕ} {rows front spectrum smooth rest : List X} (split : RowSplit b rows front spectrum smooth rest) (fits : 3 * b ≤ length rows) where
+    pub row_long : length front ≡ b
+    row_long = ap length split.row_is ∙ length-take-le b rows (omega arith)
 
-  -- after what is used freely
+    pub spectrum_long : length spectrum ≡ b
+    spectrum_long = ap length split.spectrum_is ∙ length-take-le b (drop b rows) (simp length-drop (omega arith))
 
-  pub row_used : take n used ≡ take n rows
-  row_used = alike_shorter n work used (placed b spectrum rows) (omega arith) free ∙ raw_row
+    pub smooth_long : length smooth ≡ b
+    smooth_long = ap length split.smooth_is ∙ length-take-le b (drop (2 * b) rows) (simp length-drop (omega arith))
 
-  used_part : (at k : ℕ) → at + k ≤ work → part at k used ≡ part at k (placed b spectrum rows)
-  used_part at k inside = alike_behind at k used (placed b spectrum rows) (alike_shorter (at + k) work used (placed b spectrum rows) inside free)
+    pub rest_long : length rest + 3 * b ≡ length rows
+    rest_long = rw (split.rest_is, length-drop) (omega arith)
 
-  pub smoothing_used : (k : ℕ) → k ≤ b → part (2 * b) k used ≡ part (2 * b) k rows
-  smoothing_used k little = used_part (2 * b) k (omega arith) ∙ part_behind d b spectrum rows (2 * b) k (omega arith) (omega arith)
+    module _ (n : ℕ) (few : n ≤ b) where
+      pub row_part : take n front ≡ take n rows
+      row_part = rw split.row_is (take-take n b rows few)
 
-  -- at the end
+      pub spectrum_part : take n spectrum ≡ part b n rows
+      spectrum_part = rw split.spectrum_is (take-take n b (drop b rows) few)
 
-  pub row_kept : take b (placed (2 * b) smooth used) ≡ take b rows
-  row_kept =
-      part_before d (2 * b) smooth used 0 b (omega arith) (omega arith)
-      ∙ used_part 0 b (omega arith)
-      ∙ part_before d b spectrum rows 0 b (omega arith) (omega arith)
+      pub smooth_part : take n smooth ≡ part (2 * b) n rows
+      smooth_part = rw split.smooth_is (take-take n b (drop (2 * b) rows) few)
 
-  pub spectrum_placed : part b n (placed (2 * b) smooth used) ≡ spectrum
-  spectrum_placed =
-      part_before d (2 * b) smooth used b n (omega arith) (omega arith)
-      ∙ used_part b n (omega arith)
-      ∙ placed_part d b n spectrum rows (omega arith) spectrum_length
+    -- what is left: n bins of the spectrum and of smoothing are new
+    module _ (n k : ℕ) (few : n ≤ b) (new_spectrum new_smooth used : List X)
+        (spectrum_n : length new_spectrum ≡ n) (smooth_n : length new_smooth ≡ n) (free : take k used ≡ take k rest) where
+      abbrev shown_spectrum : List X
+      shown_spectrum = new_spectrum ++ drop n spectrum
 
-  pub smoothing_placed : part (2 * b) n (placed (2 * b) smooth used) ≡ smooth
-  smoothing_placed = placed_part d (2 * b) n smooth used (omega arith) smooth-length
+      abbrev shown_smooth : List X
+      shown_smooth = new_smooth ++ drop n smooth
 
-  pub between_kept : part (3 * b) (work - 3 * b) (placed (2 * b) smooth used) ≡ part (3 * b) (work - 3 * b) rows
-  between_kept =
-      part_behind d (2 * b) smooth used (3 * b) (work - 3 * b) (omega arith) (omega arith)
-      ∙ used_part (3 * b) (work - 3 * b) (omega arith)
-      ∙ part_behind d b spectrum rows (3 * b) (work - 3 * b) (omega arith) (omega arith)
+      abbrev rows_left : List X
+      rows_left = front ++ (shown_spectrum ++ (shown_smooth ++ used))
+
+      as_long : length shown_spectrum ≡ b
+      as_long = rw (length-append, length-drop) (omega (arith, spectrum_long))
+
+      smooth_as_long : length shown_smooth ≡ b
+      smooth_as_long = rw (length-append, length-drop) (omega (arith, smooth_long))
+
+      behind_row : drop b rows_left ≡ shown_spectrum ++ (shown_smooth ++ used)
+      behind_row = drop_at front _ b row_long
+
+      behind_spectrum : drop (2 * b) rows_left ≡ shown_smooth ++ used
+      behind_spectrum =
+          let two : 2 * b ≡ b + b = omega arith in
+          rw (two, ← drop-drop b b rows_left, behind_row) (drop_at shown_spectrum _ b as_long)
+
+      behind_smooth : drop (3 * b) rows_left ≡ used
+      behind_smooth =
+          let three : 3 * b ≡ 2 * b + b = omega arith in
+          rw (three, ← drop-drop b (2 * b) rows_left, behind_spectrum) (drop_at shown_smooth _ b smooth_as_long)
+
+      pub row_kept : take b rows_left ≡ take b rows
+      row_kept = take_at front _ b row_long ∙ split.row_is
+
+      pub spectrum_shown : part b n rows_left ≡ new_spectrum
+      spectrum_shown = rw behind_row (take-append-le n shown_spectrum _ (omega (arith, as_long)) ∙ take_at new_spectrum _ n spectrum_n)
+
+      pub smooth_shown : part (2 * b) n rows_left ≡ new_smooth
+      smooth_shown = rw behind_spectrum (take-append-le n shown_smooth _ (omega (arith, smooth_as_long)) ∙ take_at new_smooth _ n smooth_n)
+
+      pub between_kept : part (3 * b) k rows_left ≡ part (3 * b) k rows
+      between_kept = rw behind_smooth (free ∙ ap (take k) split.rest_is)

@@ -1,5 +1,6 @@
 // What a datagram's payload does to a channel, as rigflow-client/src/net/udp.rs has it: samples go to the jitter buffer;
 // a chunk goes to the row, and a row that it completes to the spectrum, to the estimates, to smoothing and to the picture.
+// Sizes and slices go in one by one: a struct of them would need a clause on each slice's reference in each contract.
 #![tactic(auto)]
 
 ghost use Rattle.std.specs.Prelude.{◌≡◌, true, length, ◌≤◌};
@@ -60,24 +61,15 @@ pub struct Handled {
 }
 
 // Question 3 for a row: whether a receiver with rows of at most so many bins could hold it.
+#[tactic(auto, unfolding(crate::specs::Packets::row_asked))]
 fn row_could_be_held(row: Option<OpenRow>, bins: usize) -> bool
     ensures { result ≡ row_asked bins row }
 {
-    let Some(open) = row else {
-        return true;
-    };
-    let total_bins = open.total_bins;
-    let filled = open.filled;
-    if bins < total_bins {
-        return false;
-    }
-    if filled < total_bins {
-        return !open.done;
-    }
-    if filled - total_bins < total_bins {
-        return open.done;
-    }
-    false
+    row.is_none_or(|open| {
+        open.total_bins <= bins
+            && open.filled / 2 < open.total_bins
+            && open.done == (open.total_bins <= open.filled)
+    })
 }
 
 impl Screen {
@@ -135,16 +127,19 @@ fn show_row(
     ensures { RowShown z screen rows.old n work picture.old result rows.new picture.new }
 {
     let bins = z.bins;
-    let smooth = 2 * bins;
-    let spectrum_len = spectrum_utils::update_spectrum_db(rows, n, bins, screen.spectrum_len);
-    let display = udp::update_adaptive_waterfall_display(screen.display, rows, 0, n, work);
-    let smooth_len = udp::smooth_row(rows, n, smooth, screen.smooth_len, display.smoothing);
-    let end = smooth + smooth_len;
+    let (front, behind) = rows.split_at_mut(bins);
+    let row = &front[..n];
+    let (spectrum, behind) = behind.split_at_mut(bins);
+    let (smooth, behind) = behind.split_at_mut(bins);
+    let sorting = &mut behind[work - 3 * bins..];
+    let spectrum_len = spectrum_utils::update_spectrum_db(row, spectrum, screen.spectrum_len);
+    let display = udp::update_adaptive_waterfall_display(screen.display, row, sorting);
+    let smooth_len = udp::smooth_row(row, smooth, screen.smooth_len, display.smoothing);
     waterfall::draw_row_db(
         picture,
         z.width,
         z.height,
-        &rows[smooth..end],
+        &smooth[..smooth_len],
         udp::shown_top(display),
         udp::shown_range(display),
         display.zoom,

@@ -4,7 +4,6 @@ use crate::compare::Difference;
 use crate::session::Session;
 use crate::words::Line;
 use calls::{Side, Sizes};
-use reassembler::OpenRow;
 use receiver_state::readings::{picture_place, row_place};
 use receiver_state::sides::channel_of;
 use udp_packets::Screen;
@@ -15,11 +14,6 @@ fn pixels_of(z: Sizes) -> usize {
         return z.width * z.height;
     }
     0
-}
-
-// The bins of the row that is open, or was completed last.
-fn row_len(row: Option<OpenRow>) -> usize {
-    row.map_or(0, |r| r.total_bins)
 }
 
 // Row, spectrum and smoothing buffer, which stand behind each other with room for `bins` values each.
@@ -33,19 +27,20 @@ fn rows(
     let words = line.words;
     let spectrum = row.wrapping_add(bins);
     let smoothing = spectrum.wrapping_add(bins);
-    let open = screen.row;
-    let row_bins = row_len(open);
+    // those of the row that is open, or was completed last
+    let row_bins = screen.row.map_or(0, |r| r.total_bins);
+    let values = |from, n| compare::each(fs, floats::to_bits, from, n, words);
     match line.letter {
-        b'R' => compare::values(fs, row, row_bins, words),
-        b'S' => compare::values(fs, spectrum, screen.spectrum_len, words),
-        b'M' => compare::values(fs, smoothing, screen.smooth_len, words),
+        b'R' => values(row, row_bins),
+        b'S' => values(spectrum, screen.spectrum_len),
+        b'M' => values(smoothing, screen.smooth_len),
         _ => {
             let found = [
                 compare::sum(fs, row, row_bins),
                 compare::sum(fs, spectrum, screen.spectrum_len),
                 compare::sum(fs, smoothing, screen.smooth_len),
             ];
-            compare::numbers(&found, 0, 3, words)
+            compare::numbers(&found, words)
         }
     }
 }
@@ -53,17 +48,15 @@ fn rows(
 fn picture(z: Sizes, side: Side, us: &[u32], words: &[u32]) -> Result<(), Difference> {
     match picture_place(z, side) {
         None => compare::length(0, words),
-        Some(at) => compare::numbers(us, at, pixels_of(z), words),
+        Some(at) => compare::each(us, |x| x, at, pixels_of(z), words),
     }
 }
 
 pub(crate) fn look(line: Line<'_>, s: &Session) -> Result<(), Difference> {
     let words = line.words;
     let side = s.side;
-    let r = s.receiver;
-    let z = r.sizes;
-    let channel = channel_of(r, side);
-    let screen = channel.screen;
+    let z = s.receiver.sizes;
+    let screen = channel_of(s.receiver, side).screen;
     match line.letter {
         b'K' => compare::colours(words),
         b'E' => compare::estimates(screen.display, words),
@@ -77,9 +70,6 @@ pub(crate) fn look(line: Line<'_>, s: &Session) -> Result<(), Difference> {
 
 // What streams 1 and 2 have counted, each for itself.
 pub(crate) fn counts(s: &Session, words: &[u32]) -> Result<(), Difference> {
-    let r = s.receiver;
-    let audio = r.audio;
-    let waterfall = r.waterfall;
-    compare::counts(audio, words)?;
-    compare::counts(waterfall, words)
+    compare::counts(s.receiver.audio, words)?;
+    compare::counts(s.receiver.waterfall, words)
 }

@@ -75,10 +75,8 @@ fn take_line(s: &mut Session, p: &mut Progress, side: Side, line: &[u8]) {
 // All lines on both channels, one after the other. A read that fails ends the input.
 fn main(rt: HostRuntime) {
     let mut text = io::large_buffer();
-    let n = match input::read_all(&mut rt.stdin(), &mut text) {
-        Ok(n) => n,
-        Err(failed) => failed.bytes,
-    };
+    let read = input::read_all(&mut rt.stdin(), &mut text);
+    let n = read.unwrap_or_else(|failed| failed.bytes);
     let mut s = Session::new();
     for side in [Side::A, Side::B] {
         s.start(side);

@@ -1,17 +1,9 @@
-// Payloads of chunks, put into a lent slice. The answer is how many bytes they have, 0 where they have no room.
+// Payloads of chunks, put into a lent slice. The answer is how many bytes they have, 0 where they have no room. (No Option: the
+// datagram has its header alone then, behind which stand no bytes.)
 ghost use Rattle.io.specs.Counts.{IsPrefixLen};
 
 use crate::words::word;
-
-// As far as there is room.
-fn put(p: &mut [u8], at: usize, bytes: &[u8]) {
-    let Some(rest) = p.get_mut(at..) else {
-        return;
-    };
-    for (place, b) in rest.iter_mut().zip(bytes) {
-        *place = *b;
-    }
-}
+use numbers::put;
 
 // The low 16 bits, big-endian, as the numbers of a header are.
 pub(crate) fn put_u16(p: &mut [u8], at: usize, x: u32) {

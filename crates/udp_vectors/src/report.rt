@@ -16,10 +16,7 @@ pub struct Progress {
 
 impl Progress {
     pub(crate) fn start(rt: HostRuntime, side: Side) -> Progress {
-        let _ = match side {
-            Side::A => println!(rt; "channel A"),
-            Side::B => println!(rt; "channel B"),
-        };
+        let _ = println!(rt; "channel {side}");
         Progress {
             rt,
             line: 0,

@@ -3,13 +3,11 @@
 use crate::compare;
 use crate::compare::Difference;
 use crate::words::word;
-use audio_metrics::AudioMetrics;
 use calls::{Estimates, Refusal, Settings, Side, Sizes};
 use channel::Channel;
 use receiver_setup::setup;
 use receiver_state::sides::{channel_of, with_channel};
 use receiver_state::{Answer, Receiver};
-use udp::StreamCounts;
 
 // Answers in a word. A refusal is the number of its question.
 const ACCEPTED: u32 = 16;
@@ -64,20 +62,8 @@ fn settings_of(words: &[u32]) -> Settings {
 
 // Before a setup: no bins, so that question 1 refuses every call.
 fn no_receiver() -> Receiver {
-    let sizes = sizes_of(&[]);
-    let counts = StreamCounts::new();
-    let channel = Channel::new(estimates_of(&[]));
-    let clock = AudioMetrics::new();
-    Receiver {
-        sizes,
-        calls: 0,
-        incoming: 0,
-        audio: counts,
-        waterfall: counts,
-        a: channel,
-        b: channel,
-        clock,
-    }
+    let estimates = estimates_of(&[]);
+    Receiver::new(sizes_of(&[]), estimates, estimates)
 }
 
 fn answer_word(answer: Result<Answer, Refusal>) -> u32 {

@@ -1,11 +1,12 @@
 -- A list whose first elements are drawn by a rule of their places, one after the other; and the picture of a drawn row over rows that moved down. Assumes nothing.
-use mathlib.Core.Path.{◌≡◌, refl, ◌∙◌, ap}
-use mathlib.Core.List.{List, [], ◌∷◌, ◌++◌, map, append_assoc, append-nil}
+use mathlib.Core.Path.{◌≡◌, refl, sym, ◌∙◌, ap}
+use mathlib.Core.List.{List, [], ◌∷◌, ◌++◌, map, append-nil}
 use Prim.Native.Nat.{ℕ, zero, suc, ◌+◌, ◌<◌}
 use native.Mathlib.Omega.{arith}
 use native.Mathlib.Nat.{zero-add}
 use lib.ListN.{length, take, drop, get_or, set, length-map, drop_of_length-le}
-use lib.Seq.{drop-cons, set_at, drop_at, length-take-le}
+use native.Mathlib.Numerals.{add-one}
+use lib.Seq.{take-suc-set, take_all, drop_at, length-take-le}
 use Rattle.model.specs.Bytes.{part, placed}
 use Rattle.model.specs.Picture.{count_from}
 use Rattle.model.proofs.ListLaws.{count_from_length}
@@ -51,14 +52,19 @@ pub front : (ys xs : List ℕ) → placed 0 ys xs ≡ ys ++ drop (length ys) xs
 unfolding placed
 front ys xs = rw (zero-add (length ys))
 
-pub drawn_none : (f : ℕ → ℕ) (xs : List ℕ) → xs ≡ placed 0 (drawn f 0) xs
-unfolding count_from placed
-drawn_none f xs = refl
+pub drawn_none : (f : ℕ → ℕ) → [] ≡ drawn f 0
+unfolding count_from
+drawn_none f = refl
 
 -- one element more
-pub drawn_suc : (f : ℕ → ℕ) (n : ℕ) (xs : List ℕ) → n < length xs → set (placed 0 (drawn f n) xs) n (f n) ≡ placed 0 (drawn f (suc n)) xs
-drawn_suc f n xs h =
-    rw (front (drawn f n) xs, drawn_length f n, drop-cons xs n 0 h, set_at _ _ _ _ _ (drawn_length f n), front (drawn f (suc n)) xs, drawn_length f (suc n), drawn_snoc f n, append_assoc)
+pub drawn_suc : (f : ℕ → ℕ) (n : ℕ) (xs : List ℕ) → n < length xs → take n xs ≡ drawn f n → take (n + 1) (set xs n (f n)) ≡ drawn f (n + 1)
+drawn_suc f n xs h e = rw (add-one n, take-suc-set xs n (f n) h, e, drawn_snoc f n)
+
+-- all of them, over the front of a list
+pub all_drawn : (f : ℕ → ℕ) (n i : ℕ) (ys xs : List ℕ) → length ys ≡ n → i ≡ n → take i ys ≡ drawn f i → ys ++ drop n xs ≡ placed 0 (drawn f n) xs
+all_drawn f n i ys xs as_long all e =
+    let whole : ys ≡ drawn f n = sym (take_all n ys (omega arith)) ∙ rw all at e in
+    rw (whole, front (drawn f n) xs, drawn_length f n)
 
 -- rows that moved down by one row of w, under a drawn row
 pub drawn_over : (top xs : List ℕ) (w n : ℕ) → length top ≡ w → length xs ≡ w + n → placed 0 top (placed w (part 0 n xs) xs) ≡ top ++ take n xs

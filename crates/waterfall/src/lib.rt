@@ -87,9 +87,9 @@ fn draw_columns(buffer: &mut [u32], width: usize, bins: &[f32], levels: &Levels)
         bin: 0,
         color: levels.color_at(bins, 0),
     };
-    for x in 0..width {
+    for pixel in buffer[..width].iter_mut() {
         shown = levels.shown_at(shown, bins, reach.bin);
-        buffer[x] = shown.color;
+        *pixel = shown.color;
         reach = further(reach, by, width);
     }
 }

@@ -1,29 +1,16 @@
 -- `audio_metrics::one_way_after` meets its contract: the two answers are the cases of `one_way_after`. Assumes nothing.
-use Rattle.std.proofs.Common.{refl, w64}
+use Rattle.std.proofs.Common.{◌≡◌, rules, w64, ℤ}
+use Rattle.std.specs.Prelude.{Option, None, Some, MatchOption}
+use Rattle.std.proofs.Math.Option.{some}
 use mir.ValLaws.{to_z-of_z}
-use Rattle.model.specs.Clock.{one_way_after}
+use Rattle.model.specs.Clock.{one_way_after, step_toward}
 use Rattle.audio_metrics.specs.Views.{delay_of}
-use Rattle.audio_metrics.specs.Requires.{DelayFits}
-use Rattle.audio_metrics.proofs.Signed.{fits_wide_law}
 use Rattle.audio_metrics.proofs.one_way_after.Goals as goal
 
-pub returns-in-None : goal.returns-in-None
+delay_step : (n : Option ℤ) (new r : ℤ) → MatchOption n (r ≡ new) (λ x. r ≡ step_toward 8 x new) → some r ≡ one_way_after new (delay_of n)
 unfolding one_way_after
-returns-in-None c = rw (c.in-None.is, to_z-of_z w64 c.args.new c.ranges.new)
+delay_step None new r e = rw e
+delay_step (Some x) new r e = rw e
 
-pub step_toward-requires : goal.step_toward-requires
-step_toward-requires c =
-    let f : DelayFits (delay_of c.args.old) = c.requires.old_fits in
-    let g = rw c.in-Some.is at f in
-    record {
-      divisor = refl;
-      old_fits = rw (to_z-of_z w64 _ (fits_wide_law g)) g;
-      new_fits = rw (to_z-of_z w64 c.args.new c.ranges.new) c.requires.new_fits;
-    }
-
-pub returns-in-Some : goal.returns-in-Some
-unfolding one_way_after
-returns-in-Some c =
-    let f : DelayFits (delay_of c.args.old) = c.requires.old_fits in
-    let g = rw c.in-Some.is at f in
-    rw (to_z-of_z w64 c.step_toward.result (record { sfits = c.step_toward.type_inv }), c.step_toward.ensures, to_z-of_z w64 _ (fits_wide_law g), to_z-of_z w64 c.args.new c.ranges.new, c.in-Some.is)
+pub returns : goal.returns
+returns c = rw (to_z-of_z w64 c.map_or.result (record { sfits = c.map_or.type_inv })) (delay_step c.args.old c.args.new c.map_or.result (search rules))

@@ -1,6 +1,6 @@
 -- `floats::nearest_u64_to_f32` meets its contract. The leading zeros say how many digits n has; from 25 digits on `proofs/LeadingDigits.antt` says what the kept digits
 -- and the field make. Assumes nothing.
-use Rattle.std.proofs.Common.{◌≡◌, ℕ, suc, ◌+◌, ◌-◌, ◌*◌, ◌/◌, ◌%◌, ◌^◌, ◌<◌, ◌≤◌, Bool, false, not, T, pos, sym, refl, ap, ◌∙◌, subst, inl, inr, le_trans, lt_of_lt_of_le, le_of_lt, mod-lt, eq-zero-or-pos, one-mul, arith, lit<, lit≤, le→leb, pow_pos, pow_mono, shl_exact, le-ltb}
+use Rattle.std.proofs.Common.{◌≡◌, ℕ, suc, ◌+◌, ◌-◌, ◌*◌, ◌/◌, ◌%◌, ◌^◌, ◌<◌, ◌≤◌, Bool, false, not, T, pos, sym, refl, ap, ◌∙◌, subst, inl, inr, le_trans, lt_of_lt_of_le, le_of_lt, eq-zero-or-pos, one-mul, arith, lit<, lit≤, le→leb, pow_mono, shl_exact, le-ltb}
 use native.Mathlib.Nat.{mod-le}
 use lib.Count.{count_leading_zeros, leading_top, leading_length, leading_of_zero}
 use lib.Ieee.{binary32, round, in_float, nan_bits, of_int, of_bits}
@@ -62,15 +62,6 @@ module _ (n : ℕ) (h : n < 2 ^ 64) (z : count_leading_zeros 64 n < 40) where
       most : (z : ℕ) → 24 + (40 - z) ≤ 127
       most z = omega arith
 
-unit_pos : (n : ℕ) → 0 < unit n
-unit_pos n = subst (λ (u : ℕ). 0 < u) (sym (unit_is n)) (pow_pos (dropped n))
-
-unit_le : (n : ℕ) → unit n ≤ 2 ^ 40
-unit_le n = subst (λ (u : ℕ). u ≤ 2 ^ 40) (sym (unit_is n)) (pow_mono (below (count_leading_zeros 64 n)))
-  where
-    below : (z : ℕ) → 40 - z ≤ 40
-    below z = omega arith
-
 pattern_lt : (z q : ℕ) → q ≤ 2 ^ 24 → (40 - z + 149) * 8388608 + q < 255 * 8388608
 pattern_lt z q h = omega arith
 
@@ -83,19 +74,6 @@ as_defined n = refl
 
 pub int_to_float-result : goal.int_to_float-result
 int_to_float-result c = few_digits c.args.n c.ranges.n.fits (omega arith)
-
-pub nonzero_div-n : goal.nonzero_div-n
-nonzero_div-n c = unit_pos c.args.n
-
-pub nonzero_rem-n : goal.nonzero_rem-n
-nonzero_rem-n c = unit_pos c.args.n
-
-pub overflow_mul-n : goal.overflow_mul-n
-overflow_mul-n c = let n = c.args.n in
-    record { fits = twice (n % unit n) (lt_of_lt_of_le (mod-lt n (unit_pos n)) (unit_le n)) }
-  where
-    twice : (r : ℕ) → r < 2 ^ 40 → r * 2 < 2 ^ 64
-    twice r g = omega arith
 
 pub nearer-kept-requires : goal.nearer-kept-requires
 nearer-kept-requires c = quotient_small c.args.n c.ranges.n.fits (omega arith)

@@ -9,6 +9,6 @@ use Rattle.reassembler.proofs.open_row.Goals as goal
 
 pub returns : goal.returns
 unfolding open_row
-returns c = let total = c.args.total_bins in
+returns c = let total = c.args.chunk.total_bins in
     let zeroed : take total c.fill.new.a ≡ replicate total f0 = rw (c.fill.ensures, f_zero) (take_filled total f0 c.args.buf.now) in
     rw zeroed

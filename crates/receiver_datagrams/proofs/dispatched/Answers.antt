@@ -1,10 +1,11 @@
 -- `receiver_datagrams::dispatched` meets its contract: the header is counted, and then the stream's work is done. Assumes nothing.
+use Rattle.std.proofs.Common.{rules}
 use mathlib.Core.Path.{◌≡◌, ◌∙◌}
 use Rattle.model.specs.Framing.{stream_in, audio, waterfall, other_stream}
 use Rattle.calls.specs.Views.{model_side}
 use Rattle.jitter_buffer.proofs.HeldKept.{WordsFit}
 use Rattle.receiver_state.proofs.Lending.{whole_end}
-use Rattle.receiver_datagrams.proofs.DatagramCalls.{bytes_are, payload_taken, audio_fits, waterfall_fits, incoming_fits, begun_ready, heard_called, total_asked, none_completed, one_completed, passed_called}
+use Rattle.receiver_datagrams.proofs.DatagramCalls.{bytes_are, payload_taken, audio_fits, waterfall_fits, incoming_fits, begun_ready, heard_called, total_asked, row_answered, passed_called}
 use Rattle.receiver_datagrams.proofs.dispatched.Goals as goal
 
 -- ---- sound
@@ -46,19 +47,12 @@ waterfall_on-shown-requires c = let g = c.args in
     let total = total_asked g.r g.fs.now g.us.now g.bytes.now g.header c.requires.0 words (bytes_are g.bytes.now c.type_inv.bytes) c.in-Waterfall.side stream in
     (rw c.count_header-begun-in-Waterfall.ensures (begun_ready g.r g.fs.now g.us.now c.requires.0.ready _ _), rw (c.count_header-begun-in-Waterfall.ensures, whole_end 16 g.bytes.now) total)
 
-pub returns-in-None : goal.returns-in-None
-returns-in-None c = let g = c.args in
+pub returns-in-Waterfall : goal.returns-in-Waterfall
+returns-in-Waterfall c = let g = c.args in
     let words : WordsFit g.us.now = λ i. (c.slice_known-2-1.given i).fits in
     let stream : stream_in g.bytes.now ≡ waterfall (model_side c.in-Waterfall.side) = c.requires.1 ∙ rw c.in-Waterfall.is in
     let taken = rw (c.count_header-begun-in-Waterfall.ensures, whole_end 16 g.bytes.now) at c.waterfall_on-shown.ensures in
-    rw c.count_call-after.ensures (none_completed g.r g.fs.now g.us.now g.bytes.now g.header c.requires.0 words (bytes_are g.bytes.now c.type_inv.bytes) c.in-Waterfall.side stream c.counted_on-counts-in-Waterfall.result c.counted_on-counts-in-Waterfall.ensures c.waterfall_on-shown.result c.waterfall_on-shown.new.fs c.waterfall_on-shown.new.us taken c.in-None.is)
-
-pub returns-in-Some : goal.returns-in-Some
-returns-in-Some c = let g = c.args in
-    let words : WordsFit g.us.now = λ i. (c.slice_known-2-1.given i).fits in
-    let stream : stream_in g.bytes.now ≡ waterfall (model_side c.in-Waterfall.side) = c.requires.1 ∙ rw c.in-Waterfall.is in
-    let taken = rw (c.count_header-begun-in-Waterfall.ensures, whole_end 16 g.bytes.now) at c.waterfall_on-shown.ensures in
-    rw c.count_call-after.ensures (one_completed g.r g.fs.now g.us.now g.bytes.now g.header c.requires.0 words (bytes_are g.bytes.now c.type_inv.bytes) c.in-Waterfall.side stream c.counted_on-counts-in-Waterfall.result c.counted_on-counts-in-Waterfall.ensures c.waterfall_on-shown.result c.waterfall_on-shown.new.fs c.waterfall_on-shown.new.us taken _ c.in-Some.is)
+    rw c.count_call-after.ensures (row_answered g.r g.fs.now g.us.now g.bytes.now g.header c.requires.0 words (bytes_are g.bytes.now c.type_inv.bytes) c.in-Waterfall.side stream c.counted_on-counts-in-Waterfall.result c.counted_on-counts-in-Waterfall.ensures c.waterfall_on-shown.result c.waterfall_on-shown.new.fs c.waterfall_on-shown.new.us taken c.map_or.result (search rules))
 
 -- ---- a stream that no channel takes
 

@@ -1,24 +1,12 @@
--- `receiver_datagrams::stream_of` meets its contract. Assumes nothing.
+-- `receiver_datagrams::stream_of` meets its contract: a number that no type has is none of the four. Assumes nothing.
+use mathlib.Core.Path.{sym}
 use borrow.Author.Tests.{ne_eqb}
 use Rattle.model.specs.Framing.{stream_of}
+use Rattle.udp_framing.specs.declared.StreamType.TheVariants.{Audio, Waterfall, AudioVfoB, WaterfallVfoB}
 use Rattle.receiver_datagrams.proofs.stream_of.Goals as goal
 
-pub returns-in-1 : goal.returns-in-1
+pub returns-in_default-2 : goal.returns-in_default-2
 unfolding stream_of
-returns-in-1 c = rw c.in-1.is
-
-pub returns-in-2 : goal.returns-in-2
-unfolding stream_of
-returns-in-2 c = rw c.in-2.is
-
-pub returns-in-3 : goal.returns-in-3
-unfolding stream_of
-returns-in-3 c = rw c.in-3.is
-
-pub returns-in-4 : goal.returns-in-4
-unfolding stream_of
-returns-in-4 c = rw c.in-4.is
-
-pub returns-in_default : goal.returns-in_default
-unfolding stream_of
-returns-in_default c = rw (ne_eqb _ _ c.in_default.in_default-own.rest.0.0.0.1, ne_eqb _ _ c.in_default.in_default-own.rest.0.0.1, ne_eqb _ _ c.in_default.in_default-own.rest.0.1, ne_eqb _ _ c.in_default.in_default-own.rest.1)
+returns-in_default-2 c = let unknown = (rw c.in_default.is at c.try_from.ensures).1 in
+    let n = c.args.stream_type in
+    rw (ne_eqb n 1 (λ e. unknown Audio (sym e)), ne_eqb n 2 (λ e. unknown Waterfall (sym e)), ne_eqb n 3 (λ e. unknown AudioVfoB (sym e)), ne_eqb n 4 (λ e. unknown WaterfallVfoB (sym e)))

@@ -11,4 +11,4 @@ returns-in_err-setup_asked c = let g = c.args in
 
 pub returns : goal.returns
 returns c = let g = c.args in
-    rw c.zero_pictures.ensures (setup_opened g.z g.us.now (c.in_ok-setup_asked.ensures.ready refl) g.a g.b g.fs.now c.fresh_receiver.result c.fresh_receiver.ensures c.in_ok-setup_asked.ensures.asked)
+    rw c.zero_pictures.ensures (setup_opened g.z g.us.now (c.in_ok-setup_asked.ensures.ready refl) g.a g.b g.fs.now c.new.result c.new.ensures c.in_ok-setup_asked.ensures.asked)

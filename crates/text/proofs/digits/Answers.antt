@@ -1,12 +1,8 @@
-use Rattle.std.proofs.Common.{length, ap, arith}
-use Rattle.model.proofs.Decimal.{decimal_one_digit, decimal_one_longer}
+-- `text::digits` meets its contract. Assumes nothing.
+use Rattle.std.proofs.Common.{rules}
+use Rattle.text.proofs.DigitLaws.{digits_by_power}
 use Rattle.text.proofs.digits.Goals as goal
 
-pub loop-left-init : goal.loop-left-init
-loop-left-init c = (omega arith, omega arith)
-
-pub loop-left-preserved : goal.loop-left-preserved
-loop-left-preserved c = (omega arith, omega (arith, decimal_one_longer c.loop-left.left (omega arith)))
-
 pub returns : goal.returns
-returns c = omega (arith, ap length (decimal_one_digit c.loop-left.left (omega arith)))
+returns c = let e = c.checked_ilog10.ensures in
+    digits_by_power c.args.n c.map_or.result c.checked_ilog10.result e.none e.power_le e.next_power_gt (search rules)

@@ -1,25 +1,30 @@
 -- `udp_framing::time_header` meets its contract: the tests are the definition's. Assumes nothing.
-use Rattle.std.proofs.Common.{◌≡◌, refl, sym, ap, ◌∙◌}
+use Rattle.std.proofs.Common.{◌≡◌, refl}
+use Rattle.std.proofs.lemmas.Result.{err_from_is_err_and}
 use mathlib.Core.Option.{none, some}
 use Rattle.model.specs.Framing.{parse_header}
 use Rattle.model.proofs.TimePackets.{header_found_law, no_header_no_time_packet, other_type_no_time_packet, short_no_time_packet, time_packet_found}
-use Rattle.udp_framing.specs.Views.{header_of, header_found}
+use Rattle.udp_framing.specs.Views.{header_of}
+use Rattle.udp_framing.specs.StreamTypes.{stream_number}
 use Rattle.udp_framing.proofs.time_header.Goals as goal
-use Rattle.udp_framing.proofs.time_header.Goals.{then-header-stream_type-via-then-header-stream_type, then-header-stream_type-via-else-header-stream_type+then-packet-size}
+use Rattle.udp_framing.proofs.time_header.Goals.{then-header-from-via-then-header-from, then-header-from-via-else-header-from+then-packet-size}
 
-pub returns-in_default : goal.returns-in_default
-returns-in_default c = let missing : none ≡ parse_header c.args.packet.now = sym (ap header_found c.in_default.is) ∙ c.parse_media_header.ensures in
-    (no_header_no_time_packet c.args.stream_type c.args.size _ c.requires missing, refl)
+pub returns-in_err-header : goal.returns-in_err-header
+returns-in_err-header c = let p = err_from_is_err_and c.from_residual.result c.from_residual.ensures.1 in
+    let missing : none ≡ parse_header c.args.packet.now = rw c.in_err-header.ensures.ok_part at c.parse_media_header.ensures in
+    let why = rw c.in_err-header.ensures.ok_part at c.in_err-header.ensures.value in
+    rw (p.1, p.2) (no_header_no_time_packet (stream_number c.args.stream_type) c.args.size _ c.requires missing, cc)
 
-pub returns-then-header-stream_type : goal.returns-then-header-stream_type
-returns-then-header-stream_type c = let found : some (header_of c.in-Some.header) ≡ parse_header c.args.packet.now =
-    sym (ap header_found c.in-Some.is) ∙ c.parse_media_header.ensures in
-    elim c.then-header-stream_type.branch [
-      | then-header-stream_type-via-then-header-stream_type w ↦ (other_type_no_time_packet _ c.args.size _ found w.if-header-stream_type.true, refl)
-      | then-header-stream_type-via-else-header-stream_type+then-packet-size w ↦ (short_no_time_packet c.args.stream_type _ _ w.if-packet-size.true, refl)
+pub returns-then-header-from : goal.returns-then-header-from
+returns-then-header-from c = let found : some (header_of c.in_ok-header.header) ≡ parse_header c.args.packet.now =
+    rw c.in_ok-header.ensures.ok_part at c.parse_media_header.ensures in
+    elim c.then-header-from.branch [
+      | then-header-from-via-then-header-from w ↦ (other_type_no_time_packet _ c.args.size _ found (rw c.from.ensures at w.if-header-from.true), refl)
+      | then-header-from-via-else-header-from+then-packet-size w ↦ (short_no_time_packet (stream_number c.args.stream_type) _ _ w.if-packet-size.true, refl)
     ]
 
 pub returns : goal.returns
-returns c = let found : some (header_of c.in-Some.header) ≡ parse_header c.args.packet.now =
-    sym (ap header_found c.in-Some.is) ∙ c.parse_media_header.ensures in
-    (time_packet_found _ _ _ found c.if-header-stream_type.false c.if-packet-size.false, header_found_law _ found, c.if-packet-size.false)
+returns c = let found : some (header_of c.in_ok-header.header) ≡ parse_header c.args.packet.now =
+    rw c.in_ok-header.ensures.ok_part at c.parse_media_header.ensures in
+    let same = rw c.from.ensures at c.if-header-from.false in
+    (time_packet_found _ _ _ found same c.if-packet-size.false, header_found_law _ found, c.if-packet-size.false)

@@ -1,18 +1,20 @@
 -- `udp_framing_exports::udp_framing_audio_send_wall_ns` meets its contract. Assumes nothing.
+use Prim.Native.Nat.{ℕ}
+use mathlib.Core.Path.{◌≡◌, refl, ap, ◌∙◌}
+use Rattle.std.specs.Prelude.{Option, None, Some}
+use Rattle.model.specs.Framing.{audio_send_time, Header}
 use Rattle.udp_framing.specs.Views.{send_time_found}
 use Rattle.udp_framing_exports.specs.Handing.{time_numbers}
-use Rattle.udp_framing_exports.proofs.HandedOver.{nothing_handed, all_handed}
-use mathlib.Core.Path.{sym, ap, ◌∙◌}
-use Rattle.model.specs.Framing.{audio_send_time, Header}
+use Rattle.udp_framing_exports.proofs.HandedOver.{viewed, handed_as}
 use Rattle.udp_framing_exports.proofs.udp_framing_audio_send_wall_ns.Goals as goal
 
-pub returns-in_default : goal.returns-in_default
-returns-in_default c = nothing_handed time_numbers c.args.numbers.now
-    (sym (ap send_time_found c.in_default.is) ∙ c.audio_send_wall_ns.ensures
-    ∙ ap (λ (h : Header). audio_send_time h c.args.packet.now) c.header_with.ensures)
+seen : (t : Option ℕ) → viewed (λ n. n) t ≡ send_time_found t
+seen None = refl
+seen (Some n) = refl
 
 pub returns : goal.returns
-returns c = all_handed time_numbers
-    (sym (ap send_time_found c.in-Some.is) ∙ c.audio_send_wall_ns.ensures
-    ∙ ap (λ (h : Header). audio_send_time h c.args.packet.now) c.header_with.ensures)
-    c.put.ensures
+returns c =
+    let found = c.audio_send_wall_ns-time.result in
+    handed_as time_numbers (λ n. n) found c.map-fields.result c.map-fields.ensures.cases
+    (seen found ∙ c.audio_send_wall_ns-time.ensures ∙ ap (λ (h : Header). audio_send_time h c.args.packet.now) c.header_with.ensures)
+    c.handed.ensures

@@ -1,12 +1,17 @@
 -- `udp_framing_exports::udp_framing_parse_media_header` meets its contract. Assumes nothing.
-use Rattle.udp_framing.specs.Views.{header_found}
+use mathlib.Core.Path.{◌≡◌, refl, ◌∙◌}
+use Rattle.std.specs.Prelude.{Option, None, Some}
+use Rattle.udp_framing.specs.declared.MediaHeader.{MediaHeader}
+use Rattle.udp_framing.specs.Views.{header_of, header_found}
 use Rattle.udp_framing_exports.specs.Handing.{header_numbers}
-use Rattle.udp_framing_exports.proofs.HandedOver.{nothing_handed, all_handed}
-use mathlib.Core.Path.{sym, ap, ◌∙◌}
+use Rattle.udp_framing_exports.proofs.HandedOver.{viewed, handed_as}
 use Rattle.udp_framing_exports.proofs.udp_framing_parse_media_header.Goals as goal
 
-pub returns-in_default : goal.returns-in_default
-returns-in_default c = nothing_handed header_numbers c.args.numbers.now (sym (ap header_found c.in_default.is) ∙ c.parse_media_header.ensures)
+seen : (h : Option MediaHeader) → viewed header_of h ≡ header_found h
+seen None = refl
+seen (Some h) = refl
 
 pub returns : goal.returns
-returns c = all_handed header_numbers (sym (ap header_found c.in-Some.is) ∙ c.parse_media_header.ensures) c.put.ensures
+returns c =
+    let found = c.parse_media_header-header.result in
+    handed_as header_numbers header_of found c.map-fields.result c.map-fields.ensures.cases (seen found ∙ c.parse_media_header-header.ensures) c.handed.ensures

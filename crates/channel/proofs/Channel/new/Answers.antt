@@ -5,5 +5,5 @@ use Rattle.channel.proofs.Channel.new.Goals as goal
 pub returns : goal.returns
 returns c = let g = c.args in
     λ z fs us zeros.
-    fresh_channel_law z g.estimates c.new-jitter.result c.new-screen.result _ _ _ fs us (c.new-jitter.ensures z fs us) c.new-screen.ensures
-    c.from_bits-top.ensures c.from_bits-floor.ensures c.from_bits-range.ensures zeros
+    fresh_channel_law z g.estimates c.new.result c.new-2.result _ _ _ fs us (c.new.ensures z fs us) c.new-2.ensures
+    c.from_bits.ensures c.from_bits-2.ensures c.from_bits-3.ensures zeros

@@ -4,4 +4,4 @@ use Rattle.channel.proofs.Channel.reset.Goals as goal
 
 pub returns : goal.returns
 unfolding reset_channel with_buffer
-returns c = λ z fs us. rw (← c.reset-jitter.ensures z fs us)
+returns c = λ z fs us. rw (← c.reset.ensures z fs us)

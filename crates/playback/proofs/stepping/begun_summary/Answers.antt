@@ -7,8 +7,8 @@ use Rattle.playback.proofs.stepping.begun_summary.Goals as goal
 pub returns : goal.returns
 returns c = let g = c.args in
     record {
-      piece = c.put_summary-bytes.ensures.text;
-      put = c.put_summary-bytes.ensures.put;
-      line_is = λ values stands. c.put_summary-bytes.ensures.line values (row_has g.v.answer g.facts g.fs.now values _ c.row_length-values.ensures stands) ∙ sym (append-nil _);
+      piece = c.put_summary.ensures.text;
+      put = c.put_summary.ensures.put;
+      line_is = λ values stands. c.put_summary.ensures.line values (row_has g.v.answer g.facts g.fs.now values _ c.row_length-values.ensures stands) ∙ sym (append-nil _);
       behind = refl;
     }

@@ -1,11 +1,8 @@
 -- `playback_parts::facts::stream_in` meets its contract. Assumes nothing.
-use mathlib.Core.Path.{◌∙◌}
-use Rattle.playback_parts.proofs.Streams.{short_stream, stream_byte}
+use Rattle.std.proofs.Common.{rules}
+use Rattle.receiver_datagrams.specs.Promises.{model_stream}
+use Rattle.playback_parts.proofs.Streams.{stream_looked}
 use Rattle.playback_parts.proofs.facts.stream_in.Goals as goal
 
-pub returns-then-bytes-lt4 : goal.returns-then-bytes-lt4
-returns-then-bytes-lt4 c = let g = c.args in
-    short_stream g.bytes.now c.if-bytes-lt4.true
-
 pub returns : goal.returns
-returns c = c.stream_of.ensures ∙ stream_byte c.args.bytes.now c.if-bytes-lt4.false
+returns c = stream_looked c.args.bytes.now c.get.result (model_stream c.map_or.result) (c.get.ensures.lookup.4 (search rules) 0) (search rules) (search rules)

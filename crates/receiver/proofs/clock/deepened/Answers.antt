@@ -21,9 +21,9 @@ pub publish_jitter-clock-requires : goal.publish_jitter-clock-requires
 unfolding depth_allowed
 publish_jitter-clock-requires c = leb-true _ _ (sym c.if-not-depth_in_range.ensures)
 
-pub count_call-requires : goal.count_call-requires
-count_call-requires c = rw c.with_clock.ensures (c.in_ok-asked.ensures.ready refl).calls
+pub accepted-requires : goal.accepted-requires
+accepted-requires c = rw c.with_clock.ensures (c.in_ok-asked.ensures.ready refl).calls
 
 pub returns : goal.returns
 returns c = let g = c.args in
-    rw (c.count_call.ensures, c.with_clock.ensures) (depth_called g.r g.fs.now g.us.now (c.in_ok-asked.ensures.ready refl) (λ i. (c.type_inv.us i).fits) g.samples _ c.publish_jitter-clock.result (sym c.if-not-depth_in_range.ensures) c.publish_jitter-clock.ensures)
+    rw (c.accepted.ensures, c.with_clock.ensures) (depth_called g.r g.fs.now g.us.now (c.in_ok-asked.ensures.ready refl) (λ i. (c.type_inv.us i).fits) g.samples _ c.publish_jitter-clock.result (sym c.if-not-depth_in_range.ensures) c.publish_jitter-clock.ensures)

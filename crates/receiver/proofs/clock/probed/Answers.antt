@@ -26,8 +26,8 @@ pub record_probe-clock-requires : goal.record_probe-clock-requires
 record_probe-clock-requires c = let g = c.args in
     record { held = clock_held_law g.r g.fs.now g.us.now (c.in_ok-asked.ensures.ready refl) (λ i. (c.type_inv.us i).fits); allowed = sym c.if-not-probe_in_range.ensures }
 
-pub count_call-requires : goal.count_call-requires
-count_call-requires c = rw c.with_clock.ensures (c.in_ok-asked.ensures.ready refl).calls
+pub accepted-requires : goal.accepted-requires
+accepted-requires c = rw c.with_clock.ensures (c.in_ok-asked.ensures.ready refl).calls
 
 pub returns : goal.returns
 returns c = let g = c.args in
@@ -35,4 +35,4 @@ returns c = let g = c.args in
     let rtt-fits : SFits w64 c.clock_offset_rtt-measured.result.rtt = search rules in
     let offset = to_z-of_z w64 _ offset_fits in
     let rtt = to_z-of_z w64 _ rtt-fits in
-    rw (c.count_call.ensures, c.with_clock.ensures) (probe_called g.r g.fs.now g.us.now (c.in_ok-asked.ensures.ready refl) (λ i. (c.type_inv.us i).fits) g.t.t1 g.t.t2 g.t.t3 g.t.t4 c.record_probe-clock.result (rw (offset, rtt, c.clock_offset_rtt-measured.ensures.offset, c.clock_offset_rtt-measured.ensures.rtt) at (sym c.if-not-probe_in_range.ensures)) (rw (offset, rtt, c.clock_offset_rtt-measured.ensures.offset, c.clock_offset_rtt-measured.ensures.rtt) at c.record_probe-clock.ensures))
+    rw (c.accepted.ensures, c.with_clock.ensures) (probe_called g.r g.fs.now g.us.now (c.in_ok-asked.ensures.ready refl) (λ i. (c.type_inv.us i).fits) g.t.t1 g.t.t2 g.t.t3 g.t.t4 c.record_probe-clock.result (rw (offset, rtt, c.clock_offset_rtt-measured.ensures.offset, c.clock_offset_rtt-measured.ensures.rtt) at (sym c.if-not-probe_in_range.ensures)) (rw (offset, rtt, c.clock_offset_rtt-measured.ensures.offset, c.clock_offset_rtt-measured.ensures.rtt) at c.record_probe-clock.ensures))

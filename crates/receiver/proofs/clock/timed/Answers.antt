@@ -14,9 +14,9 @@ pub record_audio_one_way-clock-requires : goal.record_audio_one_way-clock-requir
 record_audio_one_way-clock-requires c = let g = c.args in
     clock_held_law g.r g.fs.now g.us.now (c.in_ok-asked.ensures.ready refl) (λ i. (c.type_inv.us i).fits)
 
-pub count_call-requires : goal.count_call-requires
-count_call-requires c = rw c.with_clock.ensures (c.in_ok-asked.ensures.ready refl).calls
+pub accepted-requires : goal.accepted-requires
+accepted-requires c = rw c.with_clock.ensures (c.in_ok-asked.ensures.ready refl).calls
 
 pub returns : goal.returns
 returns c = let g = c.args in
-    rw (c.count_call.ensures, c.with_clock.ensures) (one_way_called g.r g.fs.now g.us.now (c.in_ok-asked.ensures.ready refl) (λ i. (c.type_inv.us i).fits) g.receive g.send c.record_audio_one_way-clock.result c.record_audio_one_way-clock.ensures)
+    rw (c.accepted.ensures, c.with_clock.ensures) (one_way_called g.r g.fs.now g.us.now (c.in_ok-asked.ensures.ready refl) (λ i. (c.type_inv.us i).fits) g.receive g.send c.record_audio_one_way-clock.result c.record_audio_one_way-clock.ensures)

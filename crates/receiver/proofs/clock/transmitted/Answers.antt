@@ -20,9 +20,9 @@ pub note_tx_ring-clock-requires : goal.note_tx_ring-clock-requires
 unfolding depth_allowed
 note_tx_ring-clock-requires c = leb-true _ _ (sym c.if-not-depth_in_range.ensures)
 
-pub count_call-requires : goal.count_call-requires
-count_call-requires c = rw c.with_clock.ensures (c.in_ok-asked.ensures.ready refl).calls
+pub accepted-requires : goal.accepted-requires
+accepted-requires c = rw c.with_clock.ensures (c.in_ok-asked.ensures.ready refl).calls
 
 pub returns : goal.returns
 returns c = let g = c.args in
-    rw (c.count_call.ensures, c.with_clock.ensures) (transmit_called g.r g.fs.now g.us.now (c.in_ok-asked.ensures.ready refl) (λ i. (c.type_inv.us i).fits) g.samples c.note_tx_ring-clock.result (sym c.if-not-depth_in_range.ensures) c.note_tx_ring-clock.ensures)
+    rw (c.accepted.ensures, c.with_clock.ensures) (transmit_called g.r g.fs.now g.us.now (c.in_ok-asked.ensures.ready refl) (λ i. (c.type_inv.us i).fits) g.samples c.note_tx_ring-clock.result (sym c.if-not-depth_in_range.ensures) c.note_tx_ring-clock.ensures)

@@ -16,10 +16,10 @@ pub returns-then-not-settings_finite : goal.returns-then-not-settings_finite
 returns-then-not-settings_finite c = let g = c.args in
     set_refused g.r g.fs.now g.us.now (c.in_ok-asked.ensures.ready refl) (λ i. (c.type_inv.us i).fits) g.side g.settings (sym c.if-not-settings_finite.ensures)
 
-pub count_call-requires : goal.count_call-requires
-count_call-requires c = let g = c.args in
+pub accepted-requires : goal.accepted-requires
+accepted-requires c = let g = c.args in
     rw c.with_channel.ensures (channel_set_calls g.side _ g.r (c.in_ok-asked.ensures.ready refl).calls)
 
 pub returns : goal.returns
 returns c = let g = c.args in
-    rw (c.count_call.ensures, c.with_channel.ensures) (set_called g.r g.fs.now g.us.now (c.in_ok-asked.ensures.ready refl) (λ i. (c.type_inv.us i).fits) g.side g.settings c.set-channel.result (sym c.if-not-settings_finite.ensures) (rw c.channel_of.ensures at c.set-channel.ensures))
+    rw (c.accepted.ensures, c.with_channel.ensures) (set_called g.r g.fs.now g.us.now (c.in_ok-asked.ensures.ready refl) (λ i. (c.type_inv.us i).fits) g.side g.settings c.set-channel.result (sym c.if-not-settings_finite.ensures) (rw c.channel_of.ensures at c.set-channel.ensures))

@@ -12,10 +12,10 @@ pub returns-in_err-asked : goal.returns-in_err-asked
 returns-in_err-asked c = let g = c.args in
     asked_refused g.r g.fs.now g.us.now (reset (model_side g.side)) tt [] _ c.from_residual.ensures.1 c.in_err-asked.ensures
 
-pub count_call-requires : goal.count_call-requires
-count_call-requires c = let g = c.args in
+pub accepted-requires : goal.accepted-requires
+accepted-requires c = let g = c.args in
     rw c.with_channel.ensures (channel_set_calls g.side _ g.r (c.in_ok-asked.ensures.ready refl).calls)
 
 pub returns : goal.returns
 returns c = let g = c.args in
-    rw (c.count_call.ensures, c.with_channel.ensures) (reset_called g.r g.fs.now g.us.now (c.in_ok-asked.ensures.ready refl) (λ i. (c.type_inv.us i).fits) g.side c.reset-channel.result (rw c.channel_of.ensures at c.reset-channel.ensures))
+    rw (c.accepted.ensures, c.with_channel.ensures) (reset_called g.r g.fs.now g.us.now (c.in_ok-asked.ensures.ready refl) (λ i. (c.type_inv.us i).fits) g.side c.reset-channel.result (rw c.channel_of.ensures at c.reset-channel.ensures))

@@ -47,7 +47,7 @@ slice_bounds-play-start-2 c = let g = c.args in
 
 pub play-played-requires : goal.play-played-requires
 play-played-requires c = let g = c.args in
-    (rw (c.starts-begin.ensures.0, c.starts-begin.ensures.1, c.channel_of-before.ensures) (channel_ready g.r g.fs.now g.us.now (sides_ready g.r g.fs.now g.us.now (c.in_ok-asked.ensures.ready refl)) g.side), c.if-out-gt65535.false)
+    (rw (c.starts-begin.ensures.0, c.starts-begin.ensures.1, c.channel_of.ensures) (channel_ready g.r g.fs.now g.us.now (sides_ready g.r g.fs.now g.us.now (c.in_ok-asked.ensures.ready refl)) g.side), c.if-out-gt65535.false)
 
 pub count_call-requires : goal.count_call-requires
 count_call-requires c = let g = c.args in
@@ -55,5 +55,5 @@ count_call-requires c = let g = c.args in
 
 pub returns : goal.returns
 returns c = let g = c.args in
-    let told = rw (c.starts-begin.ensures.0, c.starts-begin.ensures.1, c.channel_of-before.ensures) at c.play-played.ensures in
+    let told = rw (c.starts-begin.ensures.0, c.starts-begin.ensures.1, c.channel_of.ensures) at c.play-played.ensures in
     rw (c.count_call.ensures, c.with_channel.ensures, c.starts-begin.ensures.0, c.starts-begin.ensures.1) (play_called g.r g.fs.now g.us.now (c.in_ok-asked.ensures.ready refl) (λ i. (c.slice_known-2-1.given i).fits) g.side g.out.now c.play-played.result c.play-played.new.fs c.play-played.new.us c.play-played.new.out c.if-out-gt65535.false told c.play-played.auto.out)

@@ -4,9 +4,9 @@ use Rattle.sizes.proofs.Bounds.{most_waiting_bound}
 use Rattle.receiver_state.proofs.Reading.{word_start_bound}
 use Rattle.receiver_state.proofs.readings.picture_place.Goals as goal
 
-pub overflow_add-at : goal.overflow_add-at
-overflow_add-at c = let one = c.in_ok-sizes.sizes.allowed in
-    omega (arith, c.starts-from.ensures.1, c.most_waiting-most.ensures, word_start_bound c.in_ok-sizes.sizes.sizes one c.args.side, most_waiting_bound _ one)
+pub overflow_add-result : goal.overflow_add-result
+overflow_add-result c = let one = c.in_ok-sizes.sizes.allowed in
+    omega (arith, c.starts.ensures.1, c.most_waiting.ensures, word_start_bound c.in_ok-sizes.sizes.sizes one c.args.side, most_waiting_bound _ one)
 
 pub returns : goal.returns
-returns c = rw (c.starts-from.ensures.1, c.most_waiting-most.ensures, c.in_ok-sizes.ensures.0, c.in_ok-sizes.ensures.1)
+returns c = rw (c.starts.ensures.1, c.most_waiting.ensures, c.in_ok-sizes.ensures.0, c.in_ok-sizes.ensures.1)

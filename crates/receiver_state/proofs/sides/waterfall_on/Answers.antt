@@ -12,8 +12,8 @@ pub overflow_add-end : goal.overflow_add-end
 overflow_add-end c = let g = c.args in
     omega (arith, c.float_section-twice.ensures, end_inside g.r g.fs.now g.us.now g.payload.now c.requires.0 c.requires.1 g.side)
 
-pub offset_bounds-fs-f : goal.offset_bounds-fs-f
-offset_bounds-fs-f c = let g = c.args in
+pub offset_bounds-fs-begin : goal.offset_bounds-fs-begin
+offset_bounds-fs-begin c = let g = c.args in
     omega (arith, c.starts-begin.ensures.0, c.float_section-twice.ensures, start_few g.r g.fs.now g.us.now g.payload.now c.requires.0 c.requires.1 g.side, end_inside g.r g.fs.now g.us.now g.payload.now c.requires.0 c.requires.1 g.side)
 
 pub slice_bounds-waterfall-count : goal.slice_bounds-waterfall-count
@@ -32,8 +32,8 @@ pub overflow_sub-twice : goal.overflow_sub-twice
 overflow_sub-twice c = let g = c.args in
     omega (arith, c.starts-begin.ensures.0, c.float_section-twice.ensures, start_few g.r g.fs.now g.us.now g.payload.now c.requires.0 c.requires.1 g.side, end_inside g.r g.fs.now g.us.now g.payload.now c.requires.0 c.requires.1 g.side)
 
-pub offset_bounds-us-w : goal.offset_bounds-us-w
-offset_bounds-us-w c = let g = c.args in
+pub offset_bounds-us-begin : goal.offset_bounds-us-begin
+offset_bounds-us-begin c = let g = c.args in
     omega (arith, c.starts-begin.ensures.1, words_inside g.r g.fs.now g.us.now c.requires.0 g.side)
 
 pub slice_bounds-waterfall-count-2 : goal.slice_bounds-waterfall-count-2
@@ -46,9 +46,9 @@ slice_bounds-waterfall-start-2 c = let g = c.args in
 
 pub waterfall-shown-requires : goal.waterfall-shown-requires
 waterfall-shown-requires c = let g = c.args in
-    rw (c.starts-begin.ensures.0, c.starts-begin.ensures.1, c.float_section-twice.ensures, c.channel_of-before.ensures) (row_ready g.r g.fs.now g.us.now g.payload.now c.requires.0 c.requires.1 g.side)
+    rw (c.starts-begin.ensures.0, c.starts-begin.ensures.1, c.float_section-twice.ensures, c.channel_of.ensures) (row_ready g.r g.fs.now g.us.now g.payload.now c.requires.0 c.requires.1 g.side)
 
 pub returns : goal.returns
 returns c = let g = c.args in
-    let told = rw (c.starts-begin.ensures.0, c.starts-begin.ensures.1, c.float_section-twice.ensures, c.channel_of-before.ensures) at c.waterfall-shown.ensures in
+    let told = rw (c.starts-begin.ensures.0, c.starts-begin.ensures.1, c.float_section-twice.ensures, c.channel_of.ensures) at c.waterfall-shown.ensures in
     rw (c.with_channel.ensures, c.starts-begin.ensures.0, c.starts-begin.ensures.1, c.float_section-twice.ensures) (rows_taken g.r g.fs.now g.us.now g.payload.now c.requires.0 c.requires.1 g.side c.waterfall-shown.result c.waterfall-shown.new.fs c.waterfall-shown.new.us told)

@@ -14,5 +14,5 @@ bounds-w-7 c = omega (arith, c.requires)
 pub returns : goal.returns
 unfolding receiver_at
 returns c = let w = c.args.w.now in
-    let clock = clock_read c.clock_from-clock.result c.clock_from-clock.ensures in
-    rw (c.sizes_from-sizes.ensures, c.counts_from-audio.ensures, c.counts_from-waterfall.ensures, c.channel_from-a.ensures, c.channel_from-b.ensures, clock, rest_is w 8, rest_is w 13, rest_is w 18, rest_is w 47, rest_is w 76)
+    let clock = clock_read c.clock_from.result c.clock_from.ensures in
+    rw (c.sizes_from.ensures, c.counts_from.ensures, c.counts_from-2.ensures, c.channel_from.ensures, c.channel_from-2.ensures, clock, rest_is w 8, rest_is w 13, rest_is w 18, rest_is w 47, rest_is w 76)

@@ -8,15 +8,6 @@ use Rattle.receiver_words.specs.Words.{count_words, buffer_words, screen_words}
 use Rattle.numbers.proofs.Stored.{then}
 use Rattle.receiver_words.proofs.state.write_receiver.Goals as goal
 
-pub put-requires-6 : goal.put-requires-6
-put-requires-6 c = omega (arith, c.put-5.auto.out, c.put-4.auto.out, c.put-3.auto.out, c.put-2.auto.out, c.put.auto.out, c.requires)
-
-pub put-requires-7 : goal.put-requires-7
-put-requires-7 c = omega (arith, c.put-6.auto.out, c.put-5.auto.out, c.put-4.auto.out, c.put-3.auto.out, c.put-2.auto.out, c.put.auto.out, c.requires)
-
-pub put-requires-8 : goal.put-requires-8
-put-requires-8 c = omega (arith, c.put-7.auto.out, c.put-6.auto.out, c.put-5.auto.out, c.put-4.auto.out, c.put-3.auto.out, c.put-2.auto.out, c.put.auto.out, c.requires)
-
 pub shape_of-w : goal.shape_of-w
 shape_of-w c = omega (arith, c.put-8.auto.out, c.put-7.auto.out, c.put-6.auto.out, c.put-5.auto.out, c.put-4.auto.out, c.put-3.auto.out, c.put-2.auto.out, c.put.auto.out)
 

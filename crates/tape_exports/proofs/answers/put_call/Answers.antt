@@ -5,10 +5,10 @@ pub returns-in-Datagram : goal.returns-in-Datagram
 returns-in-Datagram c = rw c.in-Datagram.is c.put.ensures
 
 pub returns-in-Play : goal.returns-in-Play
-returns-in-Play c = rw (c.in-Play.is, ← c.side_number.ensures) c.put-in-Play.ensures
+returns-in-Play c = rw (c.in-Play.is, ← c.number.ensures) c.put-in-Play.ensures
 
 pub returns-in-Reset : goal.returns-in-Reset
-returns-in-Reset c = rw (c.in-Reset.is, ← c.side_number-in-Reset.ensures) c.put-in-Reset.ensures
+returns-in-Reset c = rw (c.in-Reset.is, ← c.number-in-Reset.ensures) c.put-in-Reset.ensures
 
 pub returns-in-Set : goal.returns-in-Set
 returns-in-Set c = rw c.in-Set.is c.put_set.ensures

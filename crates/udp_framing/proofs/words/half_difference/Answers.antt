@@ -1,5 +1,5 @@
 -- `udp_framing::words::half_difference` meets its contract: the words are those of the laws of half a difference. Assumes nothing.
-use Rattle.std.proofs.Common.{◌≤◌, Bool, true, false, ◌∙◌, arith, rules}
+use Rattle.std.proofs.Common.{◌≤◌, Bool, true, false, arith, rules}
 use Rattle.std.specs.Int.{from_bool}
 use Rattle.model.proofs.ProbeWords.{half_of_words_up, half_of_words_down}
 use Rattle.udp_framing.proofs.words.half_difference.Goals as goal

@@ -1,0 +1,8 @@
+-- `audio_metrics_words_c::audio_metrics_publish_jitter` meets its contract: the closure is the model's call. Assumes nothing.
+use Rattle.std.proofs.Common.{rules}
+use Rattle.model.specs.Clock.{record_depth}
+use Rattle.audio_metrics_words.proofs.Calls.{recorded_words}
+use Rattle.audio_metrics_words_c.proofs.audio_metrics_publish_jitter.Goals as goal
+
+pub returns-clause-state_after : goal.returns-clause-state_after
+returns-clause-state_after c = rw (← c.depth_in_range-allowed.ensures) (recorded_words c.recorded.ensures (record_depth c.args.samples (record { conceals = c.args.conceals; late = c.args.late; overflow = c.args.overflow; resyncs = c.args.resyncs })) (λ m n is by. rw (← is) (search rules)))
