@@ -137,6 +137,14 @@ impl Session {
         self.number("one way", self.words[5], expected);
     }
 
+    // Times of receiving and sending, one after the other, and the delay behind each.
+    fn delays(&mut self, times: &[(&str, u64, u64, i64)]) {
+        for &(of, recv, send, expected) in times {
+            self.one_way(of, recv, send);
+            self.delay(expected);
+        }
+    }
+
     fn depth_readings(&mut self, average: u64, peak: u64) {
         let m = from_words(&self.words);
         self.reading("average", float_word(m.jitter_ms()), average);
@@ -278,48 +286,39 @@ fn delays_at_the_ends(s: &mut Session) {
     s.no_delay();
     s.one_way("5000000001, 0", 5000000001, 0);
     s.no_delay();
-    s.one_way("0, 1000000000", 0, 1000000000);
-    s.delay(-1000000000);
-    s.one_way("5000000000, 0", 5000000000, 0);
-    s.delay(-250000000);
-    s.one_way("5000000001, 0", 5000000001, 0);
-    s.delay(-250000000);
-    s.one_way("0, 1000000001", 0, 1000000001);
-    s.delay(-250000000);
+    s.delays(&[
+        ("0, 1000000000", 0, 1000000000, -1000000000),
+        ("5000000000, 0", 5000000000, 0, -250000000),
+        ("5000000001, 0", 5000000001, 0, -250000000),
+        ("0, 1000000001", 0, 1000000001, -250000000),
+    ]);
 }
 
 // An eighth of the way, toward zero.
 fn eighth_steps(s: &mut Session) {
     s.begin();
     s.probe("0, 64", 0, 64);
-    s.one_way("100, 0", 100, 0);
-    s.delay(100);
-    s.one_way("107, 0", 107, 0);
-    s.delay(100);
-    s.one_way("93, 0", 93, 0);
-    s.delay(100);
-    s.one_way("108, 0", 108, 0);
-    s.delay(101);
-    s.one_way("92, 0", 92, 0);
-    s.delay(100);
-    s.one_way("0, 100", 0, 100);
-    s.delay(75);
-    s.one_way("0, 0", 0, 0);
-    s.delay(66);
+    s.delays(&[
+        ("100, 0", 100, 0, 100),
+        ("107, 0", 107, 0, 100),
+        ("93, 0", 93, 0, 100),
+        ("108, 0", 108, 0, 101),
+        ("92, 0", 92, 0, 100),
+        ("0, 100", 0, 100, 75),
+        ("0, 0", 0, 0, 66),
+    ]);
 }
 
 // Times at the wrap of 64 bits.
 fn delays_that_wrap(s: &mut Session) {
     s.begin();
     s.probe("-1000, 64", -1000, 64);
-    s.one_way("5, 2^64 - 1", 5, 0xffff_ffff_ffff_ffff);
-    s.delay(-994);
-    s.one_way("1000, 0", 1000, 0);
-    s.delay(-870);
-    s.one_way("2^64 - 1, 0", 0xffff_ffff_ffff_ffff, 0);
-    s.delay(-886);
-    s.one_way("0, 2^64 - 1", 0, 0xffff_ffff_ffff_ffff);
-    s.delay(-900);
+    s.delays(&[
+        ("5, 2^64 - 1", 5, 0xffff_ffff_ffff_ffff, -994),
+        ("1000, 0", 1000, 0, -870),
+        ("2^64 - 1, 0", 0xffff_ffff_ffff_ffff, 0, -886),
+        ("0, 2^64 - 1", 0, 0xffff_ffff_ffff_ffff, -900),
+    ]);
 }
 
 // The first is taken whole, then an average and a peak that decays.
