@@ -2,13 +2,13 @@
 use mathlib.Core.Path.{◌≡◌, sym, ◌∙◌, ap}
 use mathlib.Core.List.{List, [], ◌∷◌, ◌++◌, append_assoc}
 use Prim.Native.Nat.{ℕ, suc, ◌+◌, ◌-◌, ◌≤◌, ◌<◌}
-use native.Mathlib.Nat.{add-zero, add_assoc}
 use native.Mathlib.Numerals.{add-one}
 use native.Mathlib.Omega.{arith}
-use lib.ListN.{length, take, drop, get_or, set, length-append, length-take, length-drop, take-append-drop, get_or-append}
-use lib.Seq.{take-suc, take_at, take-add, take-take, take-append-le, drop-cons, drop_at, drop-drop, drop-append-add, set_at, get_or-append-add, get_or-drop, get_or-take, length-take-le, ext_get_or}
+use lib.ListN.{length, take, drop, get_or, set, length-append, length-take, get_or-append}
+use lib.Seq.{take-suc, take-add, drop-cons, drop-drop, set_at, get_or-append-add, get_or-drop, get_or-take, length-take-le, ext_get_or}
 use Rattle.model.specs.Bytes.{part, placed}
 use Rattle.model.proofs.ListLaws.{placed_length}
+use Rattle.model.proofs.PlacedLaws.{part_length, placed_append, placed_ahead}
 use Rattle.areas.specs.Parts.{moved}
 
 module _ {ℓ} {A : Type ℓ} where
@@ -18,9 +18,6 @@ module _ {ℓ} {A : Type ℓ} where
   some_of (x ∷ xs) h = x
 
   -- ---- parts
-
-  pub part_length : (at n : ℕ) (xs : List A) → at + n ≤ length xs → length (part at n xs) ≡ n
-  part_length at n xs fits = simp (length-take, length-drop) (omega arith)
 
   pub get_d_part : (d : A) (at n : ℕ) (xs : List A) (i : ℕ) → i < n → get_or (part at n xs) i d ≡ get_or xs (at + i) d
   get_d_part d at n xs i h = rw (get_or-take, get_or-drop)
@@ -95,11 +92,6 @@ module _ {ℓ} {A : Type ℓ} where
 
   -- ---- one write more
 
-  pub placed_none : (at : ℕ) (ys xs : List A) → length ys ≡ 0 → xs ≡ placed at ys xs
-  unfolding placed
-  placed_none at [] xs e = rw (add-zero at, take-append-drop)
-  placed_none at (y ∷ ys) xs e = absurd (omega arith)
-
   pub placed_more : (at : ℕ) (ys xs : List A) (y : A) → at + length ys < length xs → set (placed at ys xs) (at + length ys) y ≡ placed at (ys ++ (y ∷ [])) xs
   unfolding placed
   placed_more at ys xs y here =
@@ -116,37 +108,6 @@ module _ {ℓ} {A : Type ℓ} where
 
   -- ---- some writes more
 
-  -- what is written first and what is written behind it are written together
-  placed_after : (at : ℕ) (ys zs xs : List A) → at + length ys ≤ length xs → placed (at + length ys) zs (placed at ys xs) ≡ placed at (ys ++ zs) xs
-  unfolding placed
-  placed_after at ys zs xs fits =
-      let front : length (take at xs ++ ys) ≡ at + length ys = simp (length-append, length-take) (omega arith) in
-      let behind : drop (at + length ys + length zs) ((take at xs ++ ys) ++ drop (at + length ys) xs) ≡ drop (at + length ys + length zs) xs =
-      rw (ap (λ (n : ℕ). n + length zs) (sym front), drop-append-add (take at xs ++ ys) (drop (at + length ys) xs) (length zs), drop-drop (length zs) (at + length ys) xs, front) in
-      rw (
-        ← append_assoc (take at xs) ys (drop (at + length ys) xs),
-        take_at (take at xs ++ ys) (drop (at + length ys) xs) (at + length ys) front,
-        behind,
-        length-append ys zs,
-        append_assoc (take at xs) ys,
-        append_assoc ys zs,
-        ← add_assoc at (length ys) (length zs),
-      )
-
-  -- and so are what is written first and what is written before it
-  placed_ahead : (at : ℕ) (ys zs xs : List A) → at + length ys ≤ length xs → placed at ys (placed (at + length ys) zs xs) ≡ placed at (ys ++ zs) xs
-  unfolding placed
-  placed_ahead at ys zs xs fits =
-      let l : length (take (at + length ys) xs) ≡ at + length ys = length-take-le (at + length ys) xs fits in
-      rw (
-        take-append-le at (take (at + length ys) xs) (zs ++ drop (at + length ys + length zs) xs) (omega arith),
-        take-take at (at + length ys) xs (omega arith),
-        drop_at (take (at + length ys) xs) (zs ++ drop (at + length ys + length zs) xs) (at + length ys) l,
-        length-append ys zs,
-        append_assoc ys zs,
-        ← add_assoc at (length ys) (length zs),
-      )
-
   -- a part in two
   part_add : (from i k : ℕ) (xs : List A) → part from (i + k) xs ≡ part from i xs ++ part (from + i) k xs
   part_add from i k xs = rw (take-add i k (drop from xs), drop-drop i from xs)
@@ -157,7 +118,7 @@ module _ {ℓ} {A : Type ℓ} where
       → placed (to + i) (part (from + i) k ys) (placed to (part from i ys) xs) ≡ placed to (part from (i + k) ys) xs
   copy_further from to i k ys xs fits room =
       let l = part_length from i ys (omega arith) in
-      rw (part_add from i k ys) (rw l at (placed_after to (part from i ys) (part (from + i) k ys) xs (omega arith)))
+      rw (part_add from i k ys) (rw l at (placed_append to (part from i ys) (part (from + i) k ys) xs (omega arith)))
 
   pub move_down_further : (d : A) (from to i k : ℕ) (xs : List A) → to ≤ from → from + (i + k) ≤ length xs
       → moved (from + i) (to + i) k (moved from to i xs) ≡ moved from to (i + k) xs

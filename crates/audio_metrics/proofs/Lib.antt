@@ -1,4 +1,4 @@
 pub mod Signed
 pub mod Probe
-pub mod DelayWords
+pub mod DelayRange
 pub mod Readings

@@ -1,14 +1,11 @@
 -- A reading by `map`, or by `map_or` with 0, is the model's reading of the same part. Assumes nothing.
-use Rattle.std.proofs.Common.{◌≡◌, ap, ◌∙◌, Float}
+use Rattle.std.proofs.Common.{◌≡◌, ap, Float}
 use Rattle.std.specs.Prelude.{Option, None, Some, IsSomeAnd, MatchOption}
 use Rattle.std.proofs.Math.Option.{some}
-use lib.Ieee.{of_bits, binary32}
 use Rattle.model.specs.Clock as Clock
-use Rattle.model.specs.Clock.{reading, reading_or_zero}
-use Rattle.model.proofs.Constants.{f_zero}
+use Rattle.model.specs.Clock.{reading}
 use Rattle.audio_metrics.specs.declared.ClockTiming.{ClockTiming}
-use Rattle.audio_metrics.specs.declared.JitterDepth.{JitterDepth}
-use Rattle.audio_metrics.specs.Views.{known_of, timing_of, depth_known, depth_of, reading_of}
+use Rattle.audio_metrics.specs.Views.{known_of, timing_of, reading_of}
 
 pub timing_reading : (g : Clock.Timing → Float) (t : Option ClockTiming) (r : Option Float)
     → MatchOption t (r ≡ None) (λ x. IsSomeAnd r (λ y. y ≡ g (known_of x)))
@@ -16,9 +13,3 @@ pub timing_reading : (g : Clock.Timing → Float) (t : Option ClockTiming) (r : 
 timing_reading g None r e = rw e
 timing_reading g (Some t) None h = absurd h
 timing_reading g (Some t) (Some y) h = ap some h
-
-pub depth_reading : (g : Clock.Depth → Float) (d : Option JitterDepth) (r : Float)
-    → MatchOption d (r ≡ of_bits binary32 0) (λ x. r ≡ g (depth_known x))
-    → r ≡ reading_or_zero g (depth_of d)
-depth_reading g None r e = e ∙ f_zero
-depth_reading g (Some d) r e = e

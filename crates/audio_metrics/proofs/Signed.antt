@@ -1,10 +1,8 @@
 -- Ranges of signed sums, differences and quotients, by their magnitudes; and a step between two numbers stays in their range. Assumes nothing.
-use Rattle.std.proofs.Common.{◌≡◌, ℕ, zero, suc, ◌+◌, ◌-◌, ◌*◌, ◌/◌, ◌^◌, ◌<◌, ◌≤◌, Bool, true, false, ltb, ℤ, pos, negsuc, ◌+ℤ◌, ◌-ℤ◌, neg_ℤ, nat_abs, refl, ap, ◌∙◌, mul-le-mul_right, div-le_self, arith, w64, SFits, to_z, of_z, ltb-false, ltb-true, lt-ltb, le-leb, leb-true}
+use Rattle.std.proofs.Common.{◌≡◌, ℕ, zero, suc, ◌+◌, ◌-◌, ◌/◌, ◌^◌, ◌<◌, ◌≤◌, true, false, ltb, ℤ, pos, negsuc, ◌+ℤ◌, ◌-ℤ◌, neg_ℤ, nat_abs, refl, ap, ◌∙◌, div-le_self, arith, w64, SFits, to_z, of_z, ltb-true, le-leb, leb-true}
 use mathlib.Core.Bool.{false≢true}
-use native.Mathlib.Nat.{mul-div-le}
 use lib.IntN.{sub_ℕ}
 use lib.Signed.{mag, le_z, lt_z, quot_z}
-use mir.Val.{sel}
 use mir.ValLaws.{to_z-of_z}
 use Rattle.model.specs.Clock.{step_toward}
 use Rattle.model.proofs.BoolLaws.{cond_keeps}
@@ -17,12 +15,10 @@ mag_difference H a b p q =
     cond_keeps (λ (z : ℤ). mag z ≤ H) (ltb a b) (negsuc (b - suc a)) (pos (a - b)) (λ e. omega (arith, ltb-true a b e)) (λ e. omega arith)
 
 pub mag_sub : (a b : ℤ) → mag (a -ℤ b) ≤ mag a + mag b + 1
-mag_sub (pos a) (pos zero) = omega arith
 mag_sub (pos a) (pos (suc b)) = mag_difference (a + suc b + 1) a (suc b) (omega arith) (omega arith)
-mag_sub (pos a) (negsuc b) = omega arith
 mag_sub (negsuc a) (pos zero) = mag_difference (a + 0 + 1) 0 (suc a) (omega arith) (omega arith)
-mag_sub (negsuc a) (pos (suc b)) = omega arith
 mag_sub (negsuc a) (negsuc b) = mag_difference (a + b + 1) (suc b) (suc a) (omega arith) (omega arith)
+mag_sub _ _ = omega arith
 
 mag_minus : (n : ℕ) {a : ℕ} → n ≤ suc a → mag (neg_ℤ (pos n)) ≤ a
 mag_minus zero h = omega arith
@@ -48,63 +44,12 @@ mag_within H (negsuc n) l h = leb-true n H l
 pub fits_wide_law : {z : ℤ} → mag z < 2 ^ 62 → SFits w64 z
 fits_wide_law h = record { sfits = omega arith }
 
--- ---- what 64 bits read as
-
-either_mag : (b : Bool) (x y : ℤ) → (b ≡ true → mag x < 2 ^ 63) → (b ≡ false → mag y < 2 ^ 63) → mag (sel b x y) < 2 ^ 63
-either_mag true x y f g = f refl
-either_mag false x y f g = g refl
-
--- it is from −2^63 to 2^63 − 1
-mag_read : (v : ℕ) → mag (to_z w64 v) < 2 ^ 63
-mag_read v =
-    either_mag (ltb v (2 ^ 63)) (pos v) (negsuc (2 ^ 64 - suc v)) (λ e. ltb-true v (2 ^ 63) e) (λ e. omega (arith, ltb-false v (2 ^ 63) e))
-
-mag_sum : (a b : ℤ) → mag (a +ℤ b) ≤ mag a + mag b + 1
-mag_sum (pos a) (pos b) = omega arith
-mag_sum (pos a) (negsuc b) = mag_difference (a + b + 1) a (suc b) (omega arith) (omega arith)
-mag_sum (negsuc a) (pos b) = mag_difference (a + b + 1) b (suc a) (omega arith) (omega arith)
-mag_sum (negsuc a) (negsuc b) = omega arith
-
--- what is divided by 2 or more is half as large, or smaller
-mag_half : (a : ℤ) (n : ℕ) → 2 ≤ n → mag a < 2 ^ 63 → mag (quot_z a (pos n)) < 2 ^ 62
-mag_half (pos a) n h m =
-    let twice : 2 * (a / n) ≤ n * (a / n) = mul-le-mul_right (a / n) h in
-    omega (arith, mul-div-le a n)
-mag_half (negsuc a) n h m =
-    let twice : 2 * (suc a / n) ≤ n * (suc a / n) = mul-le-mul_right (suc a / n) h in
-    omega (arith, mag_minus (suc a / n) {a = 2 ^ 62 - 1} (omega (arith, mul-div-le (suc a) n)))
-
--- a part of it fits again
-module _ (n : ℕ) (v : ℕ) where
-  part_fits : SFits w64 (quot_z (to_z w64 v) (pos n))
-  part_fits = record { sfits = omega (arith, mag_read v, mag_quot (to_z w64 v) n) }
-
-  pub part_below : ltb (mag (quot_z (to_z w64 v) (pos n))) (2 ^ 63) ≡ true
-  part_below = lt-ltb _ _ part_fits.sfits
-
-  pub part_read : to_z w64 (of_z w64 (quot_z (to_z w64 v) (pos n))) ≡ quot_z (to_z w64 v) (pos n)
-  part_read = to_z-of_z w64 _ part_fits
-
--- and so does a number moved by that part
-pub moved_below : (n : ℕ) (old : ℤ) → 2 ≤ n → mag old < 2 ^ 62 → (v : ℕ) → ltb (mag (old +ℤ quot_z (to_z w64 v) (pos n))) (2 ^ 63) ≡ true
-moved_below n old h o v =
-    lt-ltb (mag (old +ℤ quot_z (to_z w64 v) (pos n))) (2 ^ 63)
-    (omega (arith, mag_sum old (quot_z (to_z w64 v) (pos n)), mag_half (to_z w64 v) n h (mag_read v)))
-
 -- ---- a step
 
 -- a divisor above 1 is its magnitude
 pub positive : (n : ℤ) → lt_z (pos 1) n ≡ true → n ≡ pos (nat_abs n)
 positive (pos n) h = refl
 positive (negsuc n) h = absurd (false≢true h)
-
-pub above_one : (n : ℤ) → lt_z (pos 1) n ≡ true → 2 ≤ nat_abs n
-above_one (pos n) h = ltb-true 1 n h
-above_one (negsuc n) h = absurd (false≢true h)
-
-pub positive_bits : (n : ℤ) → lt_z (pos 1) n ≡ true → 0 < of_z w64 n
-positive_bits (pos n) h = omega (arith, ltb-true 1 n h)
-positive_bits (negsuc n) h = absurd (false≢true h)
 
 -- the difference, its quotient and the step fit 64 bits
 module _ (n : ℕ) (old new : ℤ) (o : mag old < 2 ^ 62) (w : mag new < 2 ^ 62) where

@@ -3,6 +3,7 @@ use Rattle.std.proofs.Math.Option as Maybe
 use Rattle.std.proofs.Math.Option.{none, some}
 use Rattle.std.specs.Prelude.{ℤ, Float, Option, None, Some}
 use Rattle.model.specs.Clock as Clock
+use Rattle.calls.specs.Views.{model_counts}
 use Rattle.audio_metrics.specs.declared.ClockTiming.{ClockTiming}
 use Rattle.audio_metrics.specs.declared.JitterDepth.{JitterDepth}
 use Rattle.audio_metrics.specs.declared.AudioMetrics.{AudioMetrics}
@@ -36,6 +37,6 @@ clock_of m =
       timing = timing_of m.timing;
       one_way = delay_of m.one_way;
       depth = depth_of m.jitter;
-      counts = record { conceals = m.conceals; late = m.late; overflow = m.overflow; resyncs = m.resyncs };
+      counts = model_counts m.counts;
       transmit_peak = m.tx_ring_peak_ms;
     }

@@ -8,12 +8,12 @@ ghost use Rattle.std.proofs.Math.Option.{some};
 ghost use Rattle.model.specs.Questions.{clock_bound, offset_allowed, timing_held, one_way_held, clock_held, probe_allowed, depth_allowed};
 ghost use Rattle.model.specs.Sizes.{between};
 ghost use Rattle.calls.specs.Views.{model_counts};
-ghost use Rattle.model.specs.Clock.{fresh_clock, step_toward, least_after, passes_gate, timing_after, record_probe, bits64, one_way_in_range, one_way_of, one_way_after, record_one_way, samples_ms, depth_after, record_depth, record_transmit, in_ms, one_way_ms, round_trip_ms, offset_ms, depth_ms, depth_peak_ms};
+ghost use Rattle.model.specs.Clock.{fresh_clock, step_toward, least_after, passes_gate, timing_after, record_probe, one_way_in_range, one_way_of, one_way_after, record_one_way, samples_ms, depth_after, record_depth, record_transmit, in_ms, one_way_ms, round_trip_ms, offset_ms, depth_ms, depth_peak_ms};
 ghost use Rattle.audio_metrics.specs.Requires.{StepFits, ProbeFits, Probed, OneWayFits};
 ghost use Rattle.audio_metrics.specs.Views.{timing_of, known_of, delay_of, depth_known, depth_of, reading_of, clock_of};
 
-use calls::DepthCounts;
-use udp_framing::words::as_signed;
+use calls::{DepthCounts, OneWayTimes};
+use udp_framing::low_64;
 
 const SAMPLE_RATE_HZ: f32 = 48_000.0;
 
@@ -41,15 +41,12 @@ pub struct JitterDepth {
     pub jitter_peak_ms: f32,
 }
 
-#[derive(Clone, Copy, PartialEq, Debug)]
+#[derive(Clone, Copy, PartialEq, Debug, Default)]
 pub struct AudioMetrics {
     pub timing: Option<ClockTiming>,
     pub one_way: Option<i64>,
     pub jitter: Option<JitterDepth>,
-    pub conceals: u64,
-    pub late: u64,
-    pub overflow: u64,
-    pub resyncs: u64,
+    pub counts: DepthCounts,
     pub tx_ring_peak_ms: f32,
 }
 
@@ -62,6 +59,7 @@ fn step_toward(n: i64, old: i64, new: i64) -> i64
 }
 
 // The running least after a round trip: it relaxes by a 64th, and a smaller round trip replaces it.
+#[tactic(auto, unfolding(model::specs::Clock::least_after))]
 fn min_after(rtt: u64, least: u64) -> u64
     requires { least < 2 ^ 62 }
     ensures { result ≡ least_after rtt least }
@@ -70,6 +68,7 @@ fn min_after(rtt: u64, least: u64) -> u64
 }
 
 // Only a round trip within 1.5 times of the least moves the offset.
+#[tactic(auto, unfolding(model::specs::Clock::passes_gate))]
 fn is_clean(rtt: u64, least: u64) -> bool
     requires { least < 2 ^ 62 }
     ensures { result ≡ passes_gate rtt least }
@@ -78,6 +77,7 @@ fn is_clean(rtt: u64, least: u64) -> bool
 }
 
 // The numbers after a probe whose round trip is above 0. The round trip is stored before the gate.
+#[tactic(auto, using(crate::proofs::Signed::fits_wide_law), unfolding(model::specs::Clock::timing_after, model::specs::Clock::least_after))]
 fn timing_after(timing: Option<ClockTiming>, offset: i64, rtt: u64) -> ClockTiming
     requires { ProbeFits (timing_of timing) offset rtt }
     ensures { known_of result ≡ timing_after offset rtt (timing_of timing) }
@@ -103,21 +103,16 @@ fn timing_after(timing: Option<ClockTiming>, offset: i64, rtt: u64) -> ClockTimi
 }
 
 // The one-way delay that the two times and the offset give: the low 64 bits of receive − send + offset.
-fn one_way_of(recv: u64, send: u64, offset: i64) -> i64
-    ensures { result ≡ one_way_of recv send offset }
+fn one_way_of(times: OneWayTimes, offset: i64) -> i64
+    ensures { result ≡ one_way_of times.receive times.send offset }
 {
-    let delay = recv.wrapping_sub(send);
-    as_signed(delay.wrapping_add(as_bits(offset)))
-}
-
-// The bits of a signed number.
-pub fn as_bits(n: i64) -> u64
-    ensures { result ≡ bits64 n }
-{
-    n.cast_unsigned()
+    let receive = i128::from(times.receive);
+    let send = i128::from(times.send);
+    low_64(receive - send + i128::from(offset))
 }
 
 // The one-way delay after a new one: the first is taken whole, then an eighth step.
+#[tactic(auto, unfolding(model::specs::Clock::one_way_after))]
 fn one_way_after(old: Option<i64>, new: i64) -> i64
     requires { OneWayFits (delay_of old) new }
     ensures { some result ≡ one_way_after new (delay_of old) }
@@ -128,6 +123,7 @@ fn one_way_after(old: Option<i64>, new: i64) -> i64
 // A number of samples in ms.
 // Question 9's bound stays a fact of each contract: callers hold a plain number, which they ask about once, and each reading
 // of it would take a type of its own apart.
+#[tactic(auto, using(model::proofs::Constants::f_48000, model::proofs::Constants::f_1000), unfolding(model::specs::Clock::samples_ms))]
 fn samples_ms(samples: usize) -> f32
     requires { samples ≤ 16777216 }
     ensures { result ≡ samples_ms samples }
@@ -136,6 +132,7 @@ fn samples_ms(samples: usize) -> f32
 }
 
 // The depth after a new one: the first is taken whole, then the average moves slowly and the peak decays.
+#[tactic(auto, unfolding(model::specs::Clock::depth_after))]
 fn depth_after(jitter: Option<JitterDepth>, now: f32) -> JitterDepth
     ensures { depth_known result ≡ depth_after «now» (depth_of jitter) }
 {
@@ -152,6 +149,7 @@ fn depth_after(jitter: Option<JitterDepth>, now: f32) -> JitterDepth
 }
 
 // Nanoseconds in ms.
+#[tactic(auto, using(model::proofs::Constants::f_1000000), unfolding(model::specs::Clock::in_ms))]
 fn in_ms(ns: i64) -> f32
     ensures { result ≡ in_ms ns }
 {
@@ -159,6 +157,7 @@ fn in_ms(ns: i64) -> f32
 }
 
 // The bound of question 9, either way.
+#[tactic(auto, unfolding(model::specs::Questions::offset_allowed))]
 fn offset_in_range(offset_ns: i64) -> bool
     ensures { result ≡ offset_allowed offset_ns }
 {
@@ -166,6 +165,7 @@ fn offset_in_range(offset_ns: i64) -> bool
 }
 
 // Question 9 of a probe. A round trip of 0 or less is let through, and then ignored.
+#[tactic(auto, unfolding(model::specs::Questions::probe_allowed))]
 pub fn probe_in_range(offset_ns: i64, rtt_ns: i64) -> bool
     ensures { result ≡ probe_allowed offset_ns rtt_ns }
 {
@@ -173,6 +173,7 @@ pub fn probe_in_range(offset_ns: i64, rtt_ns: i64) -> bool
 }
 
 // Question 9 of a depth.
+#[tactic(auto, unfolding(model::specs::Questions::depth_allowed))]
 pub fn depth_in_range(samples: usize) -> bool
     ensures { result ≡ depth_allowed samples }
 {
@@ -186,6 +187,7 @@ fn rtt_could_be_held(rtt: u64) -> bool
     (1..=4611686018427387903).contains(&rtt)
 }
 
+#[tactic(auto, unfolding(model::specs::Questions::timing_held))]
 fn timing_could_be_held(timing: Option<ClockTiming>) -> bool
     ensures { result ≡ timing_held (timing_of timing) }
 {
@@ -197,6 +199,7 @@ fn timing_could_be_held(timing: Option<ClockTiming>) -> bool
 }
 
 // The delays that are taken: −1 s to 5 s.
+#[tactic(auto, unfolding(model::specs::Clock::one_way_in_range))]
 fn one_way_in_range(one_way_ns: i64) -> bool
     ensures { result ≡ one_way_in_range one_way_ns }
 {
@@ -204,6 +207,7 @@ fn one_way_in_range(one_way_ns: i64) -> bool
 }
 
 // A delay is there only with an offset.
+#[tactic(auto, unfolding(model::specs::Questions::one_way_held))]
 fn one_way_could_be_held(timing: Option<ClockTiming>, one_way: Option<i64>) -> bool
     ensures { result ≡ one_way_held (timing_of timing) (delay_of one_way) }
 {
@@ -212,22 +216,15 @@ fn one_way_could_be_held(timing: Option<ClockTiming>, one_way: Option<i64>) -> b
 
 impl AudioMetrics {
     // Before the first number.
+    #[tactic(auto, using(model::proofs::Constants::f_zero))]
     pub fn new() -> AudioMetrics
         ensures { clock_of result ≡ fresh_clock }
     {
-        AudioMetrics {
-            timing: None,
-            one_way: None,
-            jitter: None,
-            conceals: 0,
-            late: 0,
-            overflow: 0,
-            resyncs: 0,
-            tx_ring_peak_ms: 0.0,
-        }
+        Self::default()
     }
 
     // Question 3 of a clock: could a run of calls have left these numbers?
+    #[tactic(auto, unfolding(model::specs::Questions::clock_held))]
     pub fn could_be_held(self) -> bool
         ensures { result ≡ clock_held (clock_of self) }
     {
@@ -235,6 +232,7 @@ impl AudioMetrics {
     }
 
     // Feeds one clock-offset probe. A round trip of 0 or less is ignored.
+    #[tactic(auto, using(crate::proofs::Probe::above_zero, crate::proofs::Probe::not_above_ignored, crate::proofs::Probe::above_not_negative, crate::proofs::Probe::clock_timing_below, crate::proofs::Probe::probe_offset_below, crate::proofs::Probe::probe_round_trip_below), unfolding(model::specs::Clock::record_probe))]
     pub fn record_probe(self, offset_ns: i64, rtt_ns: i64) -> AudioMetrics
         requires { Probed (clock_of self) offset_ns rtt_ns }
         ensures { clock_of result ≡ record_probe offset_ns rtt_ns (clock_of self) }
@@ -250,14 +248,15 @@ impl AudioMetrics {
     }
 
     // Feeds one audio packet's two times. Nothing is known before an offset, and absurd delays are ignored.
-    pub fn record_audio_one_way(self, recv_ns: u64, send_ns: u64) -> AudioMetrics
+    #[tactic(auto, using(crate::proofs::DelayRange::in_range_below, crate::proofs::DelayRange::clock_delay_below), unfolding(model::specs::Clock::record_one_way, model::specs::Clock::one_way_updated))]
+    pub fn record_audio_one_way(self, times: OneWayTimes) -> AudioMetrics
         requires { clock_held (clock_of self) ≡ true }
-        ensures { clock_of result ≡ record_one_way recv_ns send_ns (clock_of self) }
+        ensures { clock_of result ≡ record_one_way times.receive times.send (clock_of self) }
     {
         let Some(t) = self.timing else {
             return self;
         };
-        let new = one_way_of(recv_ns, send_ns, t.offset_ns);
+        let new = one_way_of(times, t.offset_ns);
         if !one_way_in_range(new) {
             return self;
         }
@@ -269,6 +268,7 @@ impl AudioMetrics {
     }
 
     // Publishes the depth of the receive buffer with its four counts.
+    #[tactic(auto, unfolding(model::specs::Clock::record_depth))]
     pub fn publish_jitter(self, samples: usize, counts: DepthCounts) -> AudioMetrics
         requires { samples ≤ 16777216 }
         ensures { clock_of result ≡ record_depth samples (model_counts counts) (clock_of self) }
@@ -276,15 +276,13 @@ impl AudioMetrics {
         let next = depth_after(self.jitter, samples_ms(samples));
         AudioMetrics {
             jitter: Some(next),
-            conceals: counts.conceals,
-            late: counts.late,
-            overflow: counts.overflow,
-            resyncs: counts.resyncs,
+            counts,
             ..self
         }
     }
 
     // Notes the depth of the transmit ring.
+    #[tactic(auto, unfolding(model::specs::Clock::record_transmit))]
     pub fn note_tx_ring(self, samples: usize) -> AudioMetrics
         requires { samples ≤ 16777216 }
         ensures { clock_of result ≡ record_transmit samples (clock_of self) }
@@ -297,6 +295,7 @@ impl AudioMetrics {
     }
 
     // The smoothed one-way delay in ms, once known.
+    #[tactic(auto, unfolding(model::specs::Clock::one_way_ms))]
     pub fn rx_one_way_ms(self) -> Option<f32>
         ensures { reading_of result ≡ one_way_ms (clock_of self) }
     {
@@ -304,6 +303,7 @@ impl AudioMetrics {
     }
 
     // The last round trip in ms, once a probe was taken.
+    #[tactic(auto, using(crate::proofs::Readings::timing_reading, model::proofs::Constants::f_1000000), unfolding(model::specs::Clock::round_trip_ms, model::specs::Clock::in_ms))]
     pub fn rtt_ms(self) -> Option<f32>
         ensures { reading_of result ≡ round_trip_ms (clock_of self) }
     {
@@ -312,6 +312,7 @@ impl AudioMetrics {
     }
 
     // The clock offset in ms, once known.
+    #[tactic(auto, unfolding(model::specs::Clock::offset_ms))]
     pub fn clock_offset_ms(self) -> Option<f32>
         ensures { reading_of result ≡ offset_ms (clock_of self) }
     {
@@ -319,6 +320,7 @@ impl AudioMetrics {
     }
 
     // The average depth of the receive buffer in ms: 0 before the first.
+    #[tactic(auto, using(model::proofs::Constants::f_zero), unfolding(model::specs::Clock::depth_ms))]
     pub fn jitter_ms(self) -> f32
         ensures { result ≡ depth_ms (clock_of self) }
     {
@@ -326,6 +328,7 @@ impl AudioMetrics {
     }
 
     // Its recent peak in ms: 0 before the first.
+    #[tactic(auto, using(model::proofs::Constants::f_zero), unfolding(model::specs::Clock::depth_peak_ms))]
     pub fn jitter_peak_ms(self) -> f32
         ensures { result ≡ depth_peak_ms (clock_of self) }
     {
@@ -342,24 +345,24 @@ impl AudioMetrics {
     pub fn conceals(self) -> u64
         ensures { result ≡ (clock_of self).counts.conceals }
     {
-        self.conceals
+        self.counts.conceals
     }
 
     pub fn late(self) -> u64
         ensures { result ≡ (clock_of self).counts.late }
     {
-        self.late
+        self.counts.late
     }
 
     pub fn overflow(self) -> u64
         ensures { result ≡ (clock_of self).counts.overflow }
     {
-        self.overflow
+        self.counts.overflow
     }
 
     pub fn resyncs(self) -> u64
         ensures { result ≡ (clock_of self).counts.resyncs }
     {
-        self.resyncs
+        self.counts.resyncs
     }
 }

@@ -5,7 +5,7 @@
 
 use audio_metrics::{AudioMetrics, depth_in_range, probe_in_range};
 use audio_metrics_words::{float_word, from_words, reading_word, recorded, to_words};
-use calls::DepthCounts;
+use calls::{DepthCounts, OneWayTimes};
 use std::fmt::Display;
 use tally::Tally;
 
@@ -78,12 +78,9 @@ impl Session {
         self.asked_probe(of, offset, rtt, true);
     }
 
-    fn one_way(&mut self, of: &str, recv: u64, send: u64) {
-        let found = recorded(
-            &mut self.words,
-            true,
-            |m| m.record_audio_one_way(recv, send),
-        );
+    fn one_way(&mut self, of: &str, receive: u64, send: u64) {
+        let times = OneWayTimes { receive, send };
+        let found = recorded(&mut self.words, true, |m| m.record_audio_one_way(times));
         self.called("one way", of, found, true);
     }
 
@@ -157,9 +154,7 @@ impl Session {
     }
 
     fn sum_up(self) {
-        let tally = self.tally;
-        let differ = format_args!("{} of {} vectors differ", tally.different, tally.seen);
-        let _ = println!(self.rt; "{}", tally.sum(differ));
+        let _ = println!(self.rt; "{}", self.tally);
     }
 }
 

@@ -5,7 +5,7 @@ use mathlib.Core.List.{List}
 use Prim.Native.Nat.{ℕ}
 use Rattle.model.specs.Clock.{Clock}
 use Rattle.model.specs.Questions.{clock_held}
-use Rattle.model.proofs.BoolLaws.{by_test, clash}
+use Rattle.model.proofs.BoolLaws.{by_test}
 use Rattle.audio_metrics.specs.declared.AudioMetrics.{AudioMetrics}
 use Rattle.audio_metrics.specs.Views.{clock_of}
 use Rattle.audio_metrics_words.specs.Words.{clock_in, clock_words, acts, words_after}
@@ -27,7 +27,7 @@ module _ (allowed : Bool) (w : List ℕ) where
 -- a call that does not act leaves the words
 pub refused_so : {F : Type 0} (post : F → AudioMetrics → AudioMetrics → Type 0) (f : F) (allowed : Bool) (w : List ℕ) → acts allowed w ≡ false
     → RecordedBy post f allowed w w false
-refused_so post f allowed w e = record { value = sym e; acted = λ t. clash (cc); unchanged = λ t. refl }
+refused_so post f allowed w e = record { value = sym e; acted = λ t. cc; unchanged = λ t. refl }
 
 -- a call whose closure does to the clock what the model does leaves the model's words
 module _ {F : Type 0} {post : F → AudioMetrics → AudioMetrics → Type 0} {f : F} {allowed : Bool} {entry exit : List ℕ} {r : Bool} where

@@ -11,7 +11,7 @@ ghost use Rattle.audio_metrics_words.specs.Words.{clock_in, clock_words, acts, w
 
 use audio_metrics::AudioMetrics;
 use audio_metrics_words::{from_words, reading_word, recorded, to_words};
-use calls::DepthCounts;
+use calls::{DepthCounts, OneWayTimes};
 
 // The words before the first number.
 #[unsafe(no_mangle)]
@@ -50,7 +50,11 @@ pub extern "C" fn audio_metrics_record_audio_one_way(
     ensures value { result ≡ acts true state.old }
     ensures state_after { state.new ≡ words_after true (record_one_way recv_ns send_ns) state.old }
 {
-    recorded(state, true, |m| m.record_audio_one_way(recv_ns, send_ns))
+    let times = OneWayTimes {
+        receive: recv_ns,
+        send: send_ns,
+    };
+    recorded(state, true, |m| m.record_audio_one_way(times))
 }
 
 #[tactic(auto, unfolding(model::specs::Questions::depth_allowed))]

@@ -5,7 +5,7 @@
 ghost use Rattle.std.specs.Prelude.{◌≡◌, ◌∷◌, [], Some};
 ghost use Rattle.calls.specs.Refusals.{refusal_number};
 ghost use Rattle.calls.specs.Sides.{side_named, side_number};
-ghost use Rattle.calls.specs.Views.{model_side};
+ghost use Rattle.calls.specs.Views.{model_side, size_numbers, play_words};
 ghost use Rattle.model.specs.Replay.{side_letter};
 
 use std::fmt;
@@ -13,8 +13,8 @@ use std::fmt;
 // The two channels.
 #[derive(Clone, Copy, PartialEq, Eq, Debug)]
 pub enum Side {
-    A,
-    B,
+    A = 0,
+    B = 1,
 }
 
 impl Side {
@@ -29,10 +29,7 @@ impl Side {
     pub fn number(self) -> u64
         ensures { result ≡ side_number self }
     {
-        match self {
-            Side::A => 0,
-            Side::B => 1,
-        }
+        self as u64
     }
 
     // The channel's letter, in ASCII.
@@ -67,8 +64,24 @@ pub struct Sizes {
     pub height: usize,
 }
 
+impl Sizes {
+    // The six sizes as numbers, in the order of the fields.
+    pub fn numbers(self) -> [u64; 6]
+        ensures { result ≡ size_numbers self }
+    {
+        [
+            self.packet as u64,
+            self.target as u64,
+            self.max as u64,
+            self.bins as u64,
+            self.width as u64,
+            self.height as u64,
+        ]
+    }
+}
+
 // A channel's estimates at setup, as bit patterns.
-#[derive(Clone, Copy, PartialEq, Eq, Debug)]
+#[derive(Clone, Copy, PartialEq, Eq, Debug, Default)]
 pub struct Estimates {
     pub top: u32,
     pub floor: u32,
@@ -86,7 +99,7 @@ pub struct Settings {
 }
 
 // The counts that a depth call gives.
-#[derive(Clone, Copy, PartialEq, Eq, Debug)]
+#[derive(Clone, Copy, PartialEq, Eq, Debug, Default)]
 pub struct DepthCounts {
     pub conceals: u64,
     pub late: u64,
@@ -103,50 +116,62 @@ pub struct ProbeTimes {
     pub t4: u64,
 }
 
-// The questions that an operation asks before it acts, by what a "no" says.
+// A one-way time: when the client received a packet and when the server sent it, in nanoseconds of the clock of each.
+#[derive(Clone, Copy, PartialEq, Eq, Debug)]
+pub struct OneWayTimes {
+    pub receive: u64,
+    pub send: u64,
+}
+
+// The samples of a play: taken from the queue, dropped before them, and made up behind them.
+#[derive(Clone, Copy, PartialEq, Eq, Debug)]
+pub struct PlayedSamples {
+    pub taken: usize,
+    pub dropped: usize,
+    pub short: usize,
+}
+
+impl PlayedSamples {
+    // The three numbers, in the order in which they are told.
+    pub fn words(self) -> [u64; 3]
+        ensures { result ≡ play_words self }
+    {
+        [self.taken as u64, self.dropped as u64, self.short as u64]
+    }
+}
+
+// The questions that an operation asks before it acts, with their numbers, by what a "no" says.
 #[derive(Clone, Copy, PartialEq, Eq, Debug)]
 pub enum Refusal {
     // The sizes are out of range.
-    Sizes,
+    Sizes = 1,
     // An area or a target is too short.
-    NoRoom,
+    NoRoom = 2,
     // No receiver could hold this state.
-    NotHeld,
+    NotHeld = 3,
     // As many calls as are counted were accepted.
-    TooManyCalls,
+    TooManyCalls = 4,
     // A setting is not finite.
-    NotFinite,
+    NotFinite = 5,
     // The datagram is too short or too long.
-    Length,
+    Length = 6,
     // The magic is wrong, or the version is not known.
-    Header,
+    Header = 7,
     // A row would have more bins than there are.
-    Total,
+    Total = 8,
     // A number is out of its range.
-    Range,
+    Range = 9,
     // The packet is not the time-sync packet that was asked for.
-    NotTimePacket,
+    NotTimePacket = 10,
     // A tape's word is not laid out well, or a call does not fit its tape fields.
-    BadWord,
+    BadWord = 11,
 }
 
 impl Refusal {
-    // The question's number, from 1 on.
+    // The question's number.
     pub fn number(self) -> u32
         ensures { result ≡ refusal_number self }
     {
-        match self {
-            Refusal::Sizes => 1,
-            Refusal::NoRoom => 2,
-            Refusal::NotHeld => 3,
-            Refusal::TooManyCalls => 4,
-            Refusal::NotFinite => 5,
-            Refusal::Length => 6,
-            Refusal::Header => 7,
-            Refusal::Total => 8,
-            Refusal::Range => 9,
-            Refusal::NotTimePacket => 10,
-            Refusal::BadWord => 11,
-        }
+        self as u32
     }
 }

@@ -1,6 +1,6 @@
 -- Question 3 of a channel, asked of its numbers and its waiting sequences, is the model's question of the channel that they and the areas hold. Assumes nothing.
 use mathlib.Core.Path.{◌≡◌, refl, sym, ◌∙◌, ap}
-use mathlib.Core.Bool.{Bool, true, false, and-eq-true_iff, false≢true}
+use mathlib.Core.Bool.{Bool, true, false, and-eq-true_iff}
 use mathlib.Core.List.{List}
 use Prim.Native.Nat.{ℕ, ◌+◌, ◌-◌, ◌*◌, ◌≤◌, ◌<◌}
 use native.Mathlib.Omega.{arith}
@@ -96,8 +96,8 @@ module _ (z : Sizes) (c : Channel) (us : List ℕ) (calls : ℕ) (allowed-sizes 
         asked = λ fs long.
             let no = buffer_asked false fs (omega (arith, long, float_section_is (sizes_of z))) (told.asked fs) in
             rw (← no);
-        inside = λ yes. absurd (false≢true yes);
-        next = λ yes. absurd (false≢true yes);
+        inside = λ yes. cc;
+        next = λ yes. cc;
       }
 
   -- floats enough to ask of

@@ -21,8 +21,7 @@ use Rattle.jitter_buffer.specs.declared.JitterBuffer.{JitterBuffer}
 use Rattle.jitter_buffer.specs.View.{view_of}
 use Rattle.jitter_buffer.proofs.Places.{place_ends, SamePacket, same_packets}
 use Rattle.udp_packets.specs.declared.Screen.{Screen}
-use Rattle.udp_packets.specs.Packets.{channel_of, screen_asked}
-use Rattle.udp_packets.specs.Packets.{row_asked}
+use Rattle.udp_packets.specs.Packets.{channel_of, screen_asked, row_asked}
 use Rattle.udp_packets.proofs.Screens.{row_in_front, asked_lengths}
 use Rattle.channel.specs.declared.Channel.{Channel}
 use Rattle.channel.specs.View.{row_at, channel_in, Inside}

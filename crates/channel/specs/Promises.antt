@@ -1,9 +1,9 @@
 -- What the functions of a channel ask, and what they promise: what they leave is what the model's step leaves of the channel, and nothing behind the
--- channel's sections changes but the work section. Assumes nothing.
-use Rattle.std.specs.Prelude.{ℕ, ◌+◌, ◌-◌, ◌*◌, ◌≤◌, ◌≡◌, Bool, true, List, length, drop, replicate, Float}
+-- channel's sections changes. Assumes nothing.
+use Rattle.std.specs.Prelude.{ℕ, ◌+◌, ◌*◌, ◌≤◌, ◌≡◌, Bool, true, List, length, drop, replicate, Float}
 use Rattle.std.proofs.Math.Option.{none}
 use Rattle.model.specs.Bytes.{part}
-use Rattle.model.specs.Sizes.{sizes_allowed, most_waiting, float_section, word_section}
+use Rattle.model.specs.Sizes.{most_waiting, float_section, word_section}
 use Rattle.model.specs.Receiver.{accepted, played, row, fresh_channel}
 use Rattle.model.specs.Questions.{most_calls, most_added, channel_held, total_allowed}
 use Rattle.model.specs.Step.{play_channel, reset_channel, set_channel, audio_into, waterfall_into}
@@ -11,12 +11,12 @@ use Rattle.model.proofs.HeldKept.{NextFits}
 use Rattle.calls.specs.declared.Sizes.{Sizes}
 use Rattle.calls.specs.declared.Estimates.{Estimates}
 use Rattle.calls.specs.declared.Settings.{Settings}
-use Rattle.calls.specs.Views.{sizes_of, model_estimates, model_settings}
+use Rattle.calls.specs.Views.{sizes_of, model_estimates, model_settings, model_played}
 use Rattle.jitter_buffer.specs.View.{next_of}
 use Rattle.udp_packets.specs.Packets.{screen_asked}
+use Rattle.reassembler.specs.declared.Pushed.{Pushed}
 use Rattle.reassembler.specs.Rows.{completed_of, CompletedInside}
 use Rattle.channel.specs.declared.Channel.{Channel}
-use Rattle.channel.specs.declared.Shown.{Shown}
 use Rattle.channel.specs.declared.Played.{Played}
 use Rattle.channel.specs.View.{row_at, channel_in, Inside}
 
@@ -31,11 +31,6 @@ FreshChannel e c =
 
 -- ---- question 3
 
--- what is asked before it: allowed sizes, and a u32 area that holds the section
-pub record Asked (z : Sizes) (words : ℕ) : Type 0 where
-  pub allowed : sizes_allowed (sizes_of z) ≡ true
-  pub words_fit : word_section (sizes_of z) ≤ words
-
 -- the answer is the model's, whatever floats stand in an area that holds the section and the work section; a yes tells the ranges of the fields
 pub record ChannelAsked (z : Sizes) (c : Channel) (us : List ℕ) (calls : ℕ) (r : Bool) : Type 0 where
   pub asked : (fs : List Float) → float_section (sizes_of z) + z.bins ≤ length fs → r ≡ channel_held (sizes_of z) (calls * most_added) (channel_in z c fs us)
@@ -44,9 +39,8 @@ pub record ChannelAsked (z : Sizes) (c : Channel) (us : List ℕ) (calls : ℕ) 
 
 -- ---- the calls
 
--- allowed sizes, areas that hold the sections and the work section, and a channel that a receiver could hold
+-- areas that hold the sections and the work section, and a channel that a receiver could hold
 pub record Ready (z : Sizes) (c : Channel) (fs : List Float) (us : List ℕ) : Type 0 where
-  pub allowed : sizes_allowed (sizes_of z) ≡ true
   pub floats : float_section (sizes_of z) + z.bins ≤ length fs
   pub words : word_section (sizes_of z) ≤ length us
   pub held : channel_held (sizes_of z) (most_calls * most_added) (channel_in z c fs us) ≡ true
@@ -67,7 +61,7 @@ pub record ChannelPlayed (z : Sizes) (c : Channel) (fs : List Float) (us : List 
   pub step : play_channel (sizes_of z) (length out) (channel_in z c fs us)
       ≡ record {
         after = channel_in z r.channel fs' us';
-        answer = played (record { samples = out'; taken = r.taken; dropped = r.dropped; short = r.short });
+        answer = played (model_played r.samples out');
       }
   pub behind : BehindKept z fs us fs' us'
 
@@ -77,22 +71,23 @@ ResetDone z c fs us r = reset_channel (channel_in z c fs us) ≡ record { after 
 abbrev pub SettingsTaken : Sizes → Settings → Channel → List Float → List ℕ → Channel → Type 0
 SettingsTaken z x c fs us r = set_channel (model_settings x) (channel_in z c fs us) ≡ record { after = channel_in z r fs us; answer = accepted }
 
--- a waterfall payload asks question 8 besides, and a list that ends with the work section
-pub record RowReady (z : Sizes) (c : Channel) (fs : List Float) (work : ℕ) (us payload : List ℕ) : Type 0 where
-  pub ready : Ready z c fs us
+-- a waterfall payload: areas that hold the sections, a channel whose numbers lie inside them, question 8, and room for a sort
+pub record RowReady (z : Sizes) (c : Channel) (fs : List Float) (us : List ℕ) (work : ℕ) (payload : List ℕ) : Type 0 where
+  pub floats : float_section (sizes_of z) ≤ length fs
+  pub words : word_section (sizes_of z) ≤ length us
+  pub inside : Inside z c
   pub total : total_allowed (sizes_of z) payload ≡ true
-  pub work_behind : float_section (sizes_of z) ≤ work
-  pub work_last : work + z.bins ≡ length fs
+  pub room : z.bins ≤ work
 
--- what lies between the channel's section and the work section stays
-pub record RowTaken (z : Sizes) (c : Channel) (fs : List Float) (work : ℕ) (us payload : List ℕ) (r : Shown) (fs' : List Float) (us' : List ℕ) : Type 0 where
+-- what lies behind the channel's sections stays
+pub record RowTaken (z : Sizes) (c : Channel) (fs : List Float) (us payload : List ℕ) (r : Pushed Channel) (fs' : List Float) (us' : List ℕ) : Type 0 where
   pub step : waterfall_into (sizes_of z) payload (channel_in z c fs us)
-      ≡ record { after = channel_in z r.channel fs' us'; answer = row (completed_of r.completed (drop (row_at (sizes_of z)) fs')) }
+      ≡ record { after = channel_in z r.state fs' us'; answer = row (completed_of r.completed (drop (row_at (sizes_of z)) fs')) }
   pub completed : CompletedInside r.completed z.bins
   -- the jitter buffer is the same, and what is shown lies inside its sections
-  pub buffer : r.channel.jitter ≡ c.jitter
-  pub shown : screen_asked z.bins r.channel.screen ≡ true
-  pub between : part (float_section (sizes_of z)) (work - float_section (sizes_of z)) fs' ≡ part (float_section (sizes_of z)) (work - float_section (sizes_of z)) fs
+  pub buffer : r.state.jitter ≡ c.jitter
+  pub shown : screen_asked z.bins r.state.screen ≡ true
+  pub floats : drop (float_section (sizes_of z)) fs' ≡ drop (float_section (sizes_of z)) fs
   pub words : drop (word_section (sizes_of z)) us' ≡ drop (word_section (sizes_of z)) us
   pub float_length : length fs' ≡ length fs
   pub word_length : length us' ≡ length us

@@ -4,11 +4,14 @@
 #![tactic(auto)]
 
 ghost use Rattle.std.specs.Prelude.{◌≡◌, List, ℕ, ◌≤◌, length, Float};
+ghost use Rattle.model.specs.Sizes.{word_section};
 ghost use Rattle.calls.specs.declared.Sizes.{Sizes};
-ghost use Rattle.channel.specs.Promises.{FreshChannel, Asked, ChannelAsked, Ready, RowReady, AudioTaken, ChannelPlayed, ResetDone, SettingsTaken, RowTaken};
+ghost use Rattle.calls.specs.Views.{sizes_of};
+ghost use Rattle.channel.specs.Promises.{FreshChannel, ChannelAsked, Ready, RowReady, AudioTaken, ChannelPlayed, ResetDone, SettingsTaken, RowTaken};
 
-use calls::{Estimates, Settings, Sizes};
+use calls::{Estimates, PlayedSamples, Settings};
 use jitter_buffer::JitterBuffer;
+use reassembler::Pushed;
 use sizes::AllowedSizes;
 use udp::Display;
 use udp_packets::Screen;
@@ -19,20 +22,11 @@ pub struct Channel {
     pub screen: Screen,
 }
 
-// What a waterfall payload leaves, and the bins of the row that it completed, if it did.
-#[derive(Clone, Copy)]
-pub struct Shown {
-    pub channel: Channel,
-    pub completed: Option<usize>,
-}
-
 // What a play leaves and answers.
 #[derive(Clone, Copy)]
 pub struct Played {
     pub channel: Channel,
-    pub taken: usize,
-    pub dropped: usize,
-    pub short: usize,
+    pub samples: PlayedSamples,
 }
 
 impl Channel {
@@ -51,31 +45,33 @@ impl Channel {
     }
 
     // Question 3 for one channel: whether a receiver of so many accepted calls could hold it.
-    pub fn could_be_held(self, z: Sizes, us: &[u32], calls: u64) -> bool
-        requires { Asked z (length us.now) }
-        ensures { ChannelAsked z self us.now calls result }
+    #[tactic(auto, using(crate::proofs::Sections::word_section_is, std::proofs::lemmas::Grind::common_steps))]
+    pub fn could_be_held(self, z: AllowedSizes, us: &[u32], calls: u64) -> bool
+        requires { word_section (sizes_of z.sizes) ≤ length us.now }
+        ensures { ChannelAsked z.sizes self us.now calls result }
     {
-        let most = AllowedSizes { sizes: z }.most_waiting();
-        jitter_asking::could_be_held(self.jitter, z, &us[..most], calls)
-            && self.screen.could_be_held(z.bins)
+        let most = z.most_waiting();
+        jitter_asking::could_be_held(self.jitter, z.sizes, &us[..most], calls)
+            && self.screen.could_be_held(z.sizes.bins)
     }
 
     // An audio payload: its samples go to the jitter buffer.
+    #[tactic(auto, using(crate::proofs::Sections::float_section_is, crate::proofs::Sections::word_section_is, std::proofs::lemmas::Grind::common_steps))]
     pub fn audio(
         self,
-        z: Sizes,
+        z: AllowedSizes,
         fs: &mut [f32],
         us: &mut [u32],
         sequence: u32,
         payload: &[u8],
     ) -> Self
-        requires { Ready z self fs.old us.old }
-        ensures { AudioTaken z self fs.old us.old sequence payload.now result fs.new us.new }
+        requires { Ready z.sizes self fs.old us.old }
+        ensures { AudioTaken z.sizes self fs.old us.old sequence payload.now result fs.new us.new }
     {
-        let offsets = AllowedSizes { sizes: z }.section_offsets();
+        let offsets = z.section_offsets();
         let jitter = udp_packets::handle_audio_packet(
             self.jitter,
-            z,
+            z.sizes,
             &mut fs[..offsets.row],
             &mut us[..offsets.picture],
             sequence,
@@ -85,14 +81,15 @@ impl Channel {
     }
 
     // A play of as many samples as the output has.
-    pub fn play(self, z: Sizes, fs: &mut [f32], us: &mut [u32], out: &mut [f32]) -> Played
-        requires { Ready z self fs.old us.old × (length out.old ≤ 65535) }
-        ensures { ChannelPlayed z self fs.old us.old out.old result fs.new us.new out.new }
+    #[tactic(auto, using(crate::proofs::Sections::float_section_is, crate::proofs::Sections::word_section_is, std::proofs::lemmas::Grind::common_steps))]
+    pub fn play(self, z: AllowedSizes, fs: &mut [f32], us: &mut [u32], out: &mut [f32]) -> Played
+        requires { Ready z.sizes self fs.old us.old × (length out.old ≤ 65535) }
+        ensures { ChannelPlayed z.sizes self fs.old us.old out.old result fs.new us.new out.new }
     {
-        let offsets = AllowedSizes { sizes: z }.section_offsets();
+        let offsets = z.section_offsets();
         let popped = jitter_pop::pop_samples(
             self.jitter,
-            z,
+            z.sizes,
             &mut fs[..offsets.row],
             &mut us[..offsets.picture],
             out,
@@ -102,9 +99,7 @@ impl Channel {
                 jitter: popped.buffer,
                 ..self
             },
-            taken: popped.taken,
-            dropped: popped.dropped,
-            short: popped.short,
+            samples: popped.played,
         }
     }
 
@@ -139,32 +134,32 @@ impl Channel {
         }
     }
 
-    // A waterfall payload: its chunk goes to the row, and a row that it completes is shown. `fs` ends with the work
-    // section, which begins at `work`.
+    // A waterfall payload: its chunk goes to the row, and a row that it completes is shown. `work` is room for a sort.
+    #[tactic(auto, using(crate::proofs::Sections::float_section_is, crate::proofs::Sections::word_section_is, sizes::proofs::Bounds::picture_bound, jitter_buffer::proofs::Places::queue_low))]
     pub fn waterfall(
         self,
-        z: Sizes,
+        z: AllowedSizes,
         fs: &mut [f32],
-        work: usize,
         us: &mut [u32],
+        work: &mut [f32],
         payload: &[u8],
-    ) -> Shown
-        requires { RowReady z self fs.old work us.old payload.now }
-        ensures { RowTaken z self fs.old work us.old payload.now result fs.new us.new }
+    ) -> Pushed<Self>
+        requires { RowReady z.sizes self fs.old us.old (length work.old) payload.now }
+        ensures { RowTaken z.sizes self fs.old us.old payload.now result fs.new us.new }
     {
-        let offsets = AllowedSizes { sizes: z }.section_offsets();
-        let end = offsets.picture + z.width * z.height;
+        let offsets = z.section_offsets();
+        let end = offsets.picture + z.sizes.width * z.sizes.height;
         let handled = udp_packets::handle_waterfall_packet(
             self.screen,
-            z,
+            z.sizes,
             &mut fs[offsets.row..],
-            work - offsets.row,
+            work,
             &mut us[offsets.picture..end],
             payload,
         );
-        Shown {
-            channel: Channel {
-                screen: handled.screen,
+        Pushed {
+            state: Channel {
+                screen: handled.state,
                 ..self
             },
             completed: handled.completed,

@@ -5,7 +5,7 @@ use lib.Ieee.{Float, fin, Format, prec, emax, low, up, down, add, sum, fits}
 use lib.Ieee.Fits.{and_l, and_r, down_pos}
 use lib.Ieee.Exact.{HasValue, round_exact}
 use lib.Ieee.Scale.{round_same}
-use Rattle.floats.proofs.Powers.{exponent_le}
+use Rattle.model.proofs.Powers.{exponent_le}
 
 -- what `fits` tells of a value that is not zero
 pub in_range : (f : Format) (s : Bool) (m : ℕ) (e : ℤ) → T (fits f (fin s (suc m) e)) → (suc m < 2 ^ prec f) × (down e ≤ 2 ^ low f) × (suc m * up e < 2 ^ suc (emax f) * down e)

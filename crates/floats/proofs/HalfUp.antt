@@ -50,9 +50,7 @@ no_zero d u h = lt_irrefl 0 (subst (λ (k : ℕ). k < 0) (zero-mul d) (subst (λ
 
 pub half_up : (x : Float) → T (fits binary32 x) → T (lt f0 x) → T (lt x (two_to 23)) → HalfUp x
 unfolding lt
-half_up nan t g h = absurd g
-half_up (inf true) t g h = absurd g
 half_up (inf false) t g h = absurd h
-half_up (fin true m e) t g h = absurd g
 half_up (fin false zero e) t g h = absurd (no_zero (down e) (up e) (ltb→lt (0 * 1 * down e) (0 * up e * 1) g))
 half_up (fin false (suc m) e) t g h = half_up_of m e t (below_times (suc m * up e) (2 ^ 23) (down e) (ltb→lt (suc m * up e * 1) (1 * 2 ^ 23 * down e) h))
+half_up _ t g h = absurd g

@@ -10,7 +10,7 @@ use lib.Ieee.Fits.{nearest-le, two, down_pos, round_is, round-fits}
 use lib.Ieee.Bits.{of_bits-to_bits}
 use lib.Ieee.Exact.{HasValue, units_val}
 use lib.Ieee.Nearest.{closest, closest_same, nearest-ge}
-use Rattle.floats.proofs.Powers.{exponent_lt}
+use Rattle.model.proofs.Powers.{exponent_lt}
 
 -- ---- a number's size by its leading digit
 

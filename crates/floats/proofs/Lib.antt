@@ -2,7 +2,6 @@ pub mod Doubling
 pub mod HalfUp
 pub mod LeadingDigits
 pub mod Narrow
-pub mod Powers
 pub mod Saturate
 pub mod Sign
 pub mod WholePart

@@ -1,7 +1,6 @@
 -- A float rounded to whole and cast to 8 bits, by the tests of `floats::round_to_u8`: whether it is above 0, and below 2 ^ 23, from where on every
 -- float is whole. Assumes nothing.
-use Rattle.std.proofs.Common.{◌≡◌, ℕ, zero, suc, ◌+◌, ◌-◌, ◌*◌, ◌/◌, ◌^◌, ◌<◌, ◌≤◌, min, Bool, true, false, cond, T, ltb, ℤ, pos, sym, refl, ap, ◌∙◌, subst, true≢false, lt_of_lt_of_le, le-add_right, zero-lt-suc, mul-pos, zero-mul, arith, lit≤, le→leb, ltb-false, lt-ltb}
-use mathlib.Core.Bool.{false≢true}
+use Rattle.std.proofs.Common.{◌≡◌, ℕ, zero, suc, ◌+◌, ◌-◌, ◌*◌, ◌/◌, ◌^◌, ◌<◌, ◌≤◌, min, Bool, true, false, cond, T, ltb, ℤ, pos, sym, refl, ap, ◌∙◌, subst, lt_of_lt_of_le, le-add_right, zero-lt-suc, mul-pos, zero-mul, arith, lit≤, le→leb, ltb-false, lt-ltb}
 use native.Mathlib.Nat.{div-eq_of_lt}
 use lib.Ieee.{Float, nan, inf, fin, Format, binary32, prec, emax, low, up, down, odd, units, round, lt, fits, to_unsigned, in_float}
 use lib.Ieee.Fits.{up_pos, down_pos, round_is}
@@ -18,11 +17,9 @@ cut_twice a = omega arith
 
 narrow : (x : Float) → to_unsigned 8 x ≡ min (to_unsigned 64 x) 255
 unfolding to_unsigned
-narrow nan = refl
-narrow (inf true) = refl
-narrow (inf false) = refl
-narrow (fin true m e) = refl
 narrow (fin false m e) = cut_twice (m * up e / down e)
+narrow (inf true) = refl
+narrow _ = refl
 
 pub exact_in_float : (n : ℕ) → n ≤ 2 ^ 24 → T (in_float binary32 (pos n))
 unfolding in_float
@@ -37,7 +34,7 @@ above_minus_one : (x : Float) → lt f0 x ≡ true → lt minus_one x ≡ true
 unfolding lt
 above_minus_one nan g = g
 above_minus_one (inf s) g = g
-above_minus_one (fin true m e) g = absurd (false≢true g)
+above_minus_one (fin true m e) g = cc
 above_minus_one (fin false m e) g =
     lt-ltb 0 (1 * 1 * down e + m * up e * 1) (lt_of_lt_of_le (one_down_pos e) (le-add_right (1 * 1 * down e) (m * up e * 1)))
 
@@ -76,7 +73,7 @@ pub not_positive_gives_0 : (x : Float) → T (fits binary32 x) → lt f0 x ≡ f
 unfolding lt
 not_positive_gives_0 nan t g = unfold round_half_away to_unsigned in refl
 not_positive_gives_0 (inf true) t g = unfold round_half_away to_unsigned in refl
-not_positive_gives_0 (inf false) t g = absurd (true≢false g)
+not_positive_gives_0 (inf false) t g = cc
 not_positive_gives_0 (fin true m e) t g = unfold round_half_away in negative_gives_0 binary32 ((2 * (m * up e) + down e) / (2 * down e)) 1
 not_positive_gives_0 (fin false zero e) t g = zero_gives_0 e ∙ ap (to_unsigned 8) (zero_stays false e t)
 not_positive_gives_0 (fin false (suc m) e) t g =

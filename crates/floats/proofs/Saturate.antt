@@ -1,6 +1,5 @@
 -- `as` from a float to an unsigned number of w bits: from 2 ^ w on it is 2 ^ w - 1. The laws are stated over the width. Assumes nothing.
 use Rattle.std.proofs.Common.{◌≡◌, ℕ, ◌+◌, ◌-◌, ◌*◌, ◌/◌, ◌^◌, ◌<◌, ◌≤◌, min, true, false, T, ltb, ℤ, pos, sym, refl, subst, lt_of_lt_of_le, mul-le-mul_right, mul-le-mul_left, mul-pos, one-mul, le-div_iff_mul-le, mul-one, not-le_of_lt, le-add_left, arith, lt→ltb, pow_pos, pow_mono, ltb-false, ltb-true}
-use mathlib.Core.Bool.{false≢true}
 use lib.Ieee.{Float, nan, inf, fin, up, down, lt, to_unsigned}
 use lib.Ieee.Fits.{down_pos}
 
@@ -34,8 +33,8 @@ cut_at_top a c h = omega arith
 
 pub above_gives_top : (w : ℕ) (x : Float) → lt minus_one x ≡ true → lt x (two_to w) ≡ false → 2 ^ w - 1 ≡ to_unsigned w x
 unfolding lt to_unsigned
-above_gives_top w nan h k = absurd (false≢true h)
-above_gives_top w (inf true) h k = absurd (false≢true h)
+above_gives_top w nan h k = cc
+above_gives_top w (inf true) h k = cc
 above_gives_top w (inf false) h k = refl
 above_gives_top w (fin true m e) h k =
     absurd (sum_is_above_zero (m * up e * 1 + 1 * 2 ^ w * down e) (lt_of_lt_of_le (power_pos w e) (le-add_left (1 * 2 ^ w * down e) (m * up e * 1))) k)
@@ -49,9 +48,9 @@ uncut a c h = omega arith
 -- from below one power of two to below a larger one
 pub below_larger : (w v : ℕ) (x : Float) → w ≤ v → lt x (two_to w) ≡ true → T (lt x (two_to v))
 unfolding lt
-below_larger w v nan l k = absurd (false≢true k)
+below_larger w v nan l k = cc
 below_larger w v (inf true) l k = tt
-below_larger w v (inf false) l k = absurd (false≢true k)
+below_larger w v (inf false) l k = cc
 below_larger w v (fin true m e) l k =
     lt→ltb 0 (m * up e * 1 + 1 * 2 ^ v * down e)
     (lt_of_lt_of_le (power_pos v e) (le-add_left (1 * 2 ^ v * down e) (m * up e * 1)))

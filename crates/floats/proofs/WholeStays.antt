@@ -1,6 +1,5 @@
 -- A float from 2 ^ 23 on is whole, and so is a zero: rounding it to whole changes nothing. Assumes nothing.
 use Rattle.std.proofs.Common.{◌≡◌, ℕ, zero, suc, ◌+◌, ◌*◌, ◌/◌, ◌^◌, ◌<◌, ◌≤◌, Bool, true, false, T, ℤ, pos, negsuc, sym, refl, ap, ◌∙◌, subst, zero-le, le_of_eq, lt_of_lt_of_le, lt_of_le_of_lt, zero-lt-suc, mul_assoc, mul_comm, mul-lt-mul_of_pos_right, zero-add, zero-mul, mul-one, arith, pow_pos, pow-add, ltb-false}
-use mathlib.Core.Bool.{false≢true}
 use native.Mathlib.Nat.{div-eq_of_lt, pow-succ'}
 use lib.Ieee.{Float, nan, inf, fin, Format, binary32, emax, low, up, down, round, lt, fits}
 use lib.Ieee.Fits.{down_pos, round-fits}
@@ -56,8 +55,8 @@ zero_stays s e t =
 
 pub large_positive_stays : (x : Float) → T (fits binary32 x) → lt f0 x ≡ true → lt x (two_to 23) ≡ false → x ≡ round_half_away x
 unfolding lt
-large_positive_stays nan t g h = absurd (false≢true g)
+large_positive_stays nan t g h = cc
 large_positive_stays (inf s) t g h = unfold round_half_away in refl
-large_positive_stays (fin true m e) t g h = absurd (false≢true g)
+large_positive_stays (fin true m e) t g h = cc
 large_positive_stays (fin false zero e) t g h = zero_stays false e t
 large_positive_stays (fin false (suc m) e) t g h = large_stays false m e t (from_times (suc m * up e) (2 ^ 23) (down e) (ltb-false (suc m * up e * 1) (1 * 2 ^ 23 * down e) h))

@@ -94,6 +94,7 @@ pub fn round(x: f32) -> f32
 
 // The whole number nearest to x, half up. x + x is exact, and its whole part has the half as its
 // last digit.
+#[tactic(auto, using(crate::proofs::HalfUp::half_up, crate::proofs::HalfUp::HalfUp))]
 fn half_up(x: f32) -> u64
     requires fact_1 { T (lt f0 x) }
     requires fact_2 { T (lt x (fin false 1 (pos 23))) }
@@ -104,25 +105,19 @@ fn half_up(x: f32) -> u64
 
 // x rounded in that way and then cast to a u8: what lies outside goes to the nearest end, and a NaN to 0. One cast of
 // the float serves.
+#[tactic(auto, using(crate::proofs::Narrow::whole_to_u8))]
 pub fn round_to_u8(x: f32) -> u8
     ensures { result ≡ as_unsigned 8 (round_half_away x) }
 {
     if x > 0.0 {
         if x < 8388608.0 {
-            cut_to_u8(half_up(x))
+            half_up(x).min(255) as u8
         } else {
             255
         }
     } else {
         0
     }
-}
-
-// n, and at most 255.
-fn cut_to_u8(n: u64) -> u8
-    ensures { result ≡ min n 255 }
-{
-    n.min(255) as u8
 }
 
 // The f32 nearest to n; where two are as near, the one whose last digit is even. By hand, here and below: the library's function of

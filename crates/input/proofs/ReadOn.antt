@@ -1,6 +1,5 @@
 -- One read behind what is there: both together are what the input had next. Assumes nothing.
-use Rattle.std.proofs.Common.{◌≡◌, ℕ, ◌+◌, ◌≤◌, List, ◌++◌, length, take, Option, Result, Ok, Err, length-take-le, ap, ◌∙◌}
-use Rattle.std.specs.Result.{MatchResult, IsErrAnd}
+use Rattle.std.proofs.Common.{◌≡◌, ℕ, ◌+◌, ◌≤◌, List, ◌++◌, length, take, Option, length-take-le, ap, ◌∙◌}
 use Rattle.std.proofs.KnownBytes.{Consumes-trans}
 use Rattle.input.specs.Promises.{ReadBefore}
 use borrow.Rule.Slice.PartMut.{put_mid, post_of}
@@ -19,8 +18,3 @@ pub read_on : (before between after : Option (List ℕ)) (at k n : ℕ) (bytes p
     → ReadBefore before after (put_mid at k bytes part) (at + n)
 read_on before between after at k n bytes part inside few first more =
     rw (front_of_both at k n bytes part inside few) (Consumes-trans before between after (take at bytes) (take n part) first more)
-
--- what is there behind `map_err` was there before it
-pub ok_before : {T E D : Type 0} (r : Result T E) (s : Result T D) (P : E → D → Type 0) (n : T) → MatchResult r (λ x. s ≡ Ok x) (λ e. IsErrAnd s (P e)) → s ≡ Ok n → r ≡ Ok n
-ok_before (Ok x) s P n cases is = cc
-ok_before (Err e) s P n cases is = absurd (rw is at cases)

@@ -13,6 +13,7 @@ pub struct ReadFailed {
 }
 
 // Reads until the input ends or the bytes are full, and says how many there are.
+#[tactic(auto, using(crate::proofs::ReadOn::read_on))]
 pub fn read_all<R: io::Read>(reader: &mut R, bytes: &mut [u8]) -> Result<usize, ReadFailed>
     ensures bound { MatchResult result (λ n. n ≤ length bytes.old) (λ e. e.bytes ≤ length bytes.old) }
     ensures bytes { MatchResult result (ReadUntil (R.remaining reader.old) (R.remaining reader.new) bytes.new) (λ e. ReadBefore (R.remaining reader.old) (R.remaining reader.new) bytes.new e.bytes) }

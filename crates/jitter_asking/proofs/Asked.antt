@@ -1,13 +1,13 @@
 -- Question 3 on the fields and the sequences is the model's question on the view. Assumes nothing.
-use Rattle.std.proofs.Common.{Option, None, Some}
+use Rattle.std.proofs.Common.{Option, None, Some, add-one}
 use mathlib.Core.Path.{◌≡◌, refl, sym, ◌∙◌, ap}
 use mathlib.Core.Bool.{Bool, true, false, ◌&&◌, cond, and-eq-true_iff, and_assoc, and-true}
 use mathlib.Core.List.{List, [], ◌∷◌}
 use Prim.Native.Nat.{ℕ, zero, suc, ◌+◌, ◌-◌, ◌*◌, ◌≤◌, ◌<◌, max}
-use native.Mathlib.Nat.{sub-zero}
+use native.Mathlib.Nat.{sub-zero, add-zero}
 use native.Mathlib.Omega.{arith}
 use lib.ListN.{length, take, drop, get_or, length-take, length-drop}
-use lib.Seq.{get_or-take, length-take-le}
+use lib.Seq.{get_or-take, get_or-drop, take-take, take_all, length-take-le, drop-cons}
 use lib.Dec.{leb, ltb, eqb}
 use lib.Ieee.{Float}
 use borrow.Author.Tests.{ltb-true, ltb-false, leb-true, leb-false, eqb-true, lt-ltb, le-ltb, le-leb, lt-leb, eq-eqb, ne_eqb}
@@ -22,7 +22,7 @@ use Rattle.calls.specs.Views.{sizes_of}
 use Rattle.sizes.specs.View.{queue_at}
 use Rattle.jitter_buffer.specs.declared.JitterBuffer.{JitterBuffer}
 use Rattle.jitter_buffer.specs.View.{next_of, packets_from, counters_of, view_of}
-use Rattle.jitter_asking.specs.Fields.{words_from, largest_counter, next_asked, start_asked}
+use Rattle.jitter_asking.specs.Fields.{largest_counter, next_asked, start_asked}
 use Rattle.jitter_asking.specs.Promises.{HeldTold}
 use Rattle.jitter_buffer.proofs.Places.{packets_length}
 
@@ -42,32 +42,10 @@ counters_asked limit k = simp (leb_max, and_assoc, and-true)
 
 -- ---- the order
 
-pub sequences_words : (packet k n : ℕ) (fs : List Float) (us : List ℕ) → sequences (packets_from packet k n fs us) ≡ words_from k n us
-unfolding sequences packets_from words_from
-sequences_words packet k zero fs us = refl
-sequences_words packet k (suc n) fs us = rw (sequences_words packet (suc k) n fs us)
-
--- one pair more
-rising_pair : (us : List ℕ) (i m : ℕ) → strictly_rising (words_from i (suc (suc m)) us) ≡ ltb (get_or us i 0) (get_or us (suc i) 0) && strictly_rising (words_from (suc i) (suc m) us)
-unfolding words_from strictly_rising
-rising_pair us i m = refl
-
-rising_one : (us : List ℕ) (i : ℕ) → true ≡ strictly_rising (words_from i 1 us)
-unfolding words_from strictly_rising
-rising_one us i = refl
-
-rising_none : (us : List ℕ) (i : ℕ) → true ≡ strictly_rising (words_from i 0 us)
-unfolding words_from strictly_rising
-rising_none us i = refl
-
--- the first of the sequences, by themselves
-words_front : (us : List ℕ) (k m n : ℕ) → k + m ≤ n → words_from k m (take n us) ≡ words_from k m us
-unfolding words_from
-words_front us k zero n h = refl
-words_front us k (suc m) n h = rw (get_or-take n us k 0 (omega arith), words_front us (suc k) m n (omega arith))
-
-pub front_rises : (us : List ℕ) (n : ℕ) → n ≤ length us → strictly_rising (words_from 0 (length (take n us)) (take n us)) ≡ strictly_rising (words_from 0 n us)
-front_rises us n fits = rw (length-take-le n us fits, words_front us 0 n n (omega arith))
+pub sequences_front : (packet k n : ℕ) (fs : List Float) (us : List ℕ) → k + n ≤ length us → sequences (packets_from packet k n fs us) ≡ take n (drop k us)
+unfolding sequences packets_from
+sequences_front packet k zero fs us h = refl
+sequences_front packet k (suc n) fs us h = rw (drop-cons us k 0 (omega arith), sequences_front packet (suc k) n fs us (omega arith))
 
 -- ---- next
 
@@ -86,17 +64,29 @@ all_first n x xs r =
     (λ t. none_below n x xs r (leb-true n x t) ∙ sym t)
     (λ t. rw t)
 
-all_words : (n m : ℕ) (us : List ℕ) → strictly_rising (words_from 0 m us) ≡ true → all (leb n) (words_from 0 m us) ≡ cond (eqb m 0) true (leb n (get_or us 0 0))
-unfolding words_from all
-all_words n zero us r = rw (eq-eqb 0 0 refl)
-all_words n (suc m) us r = rw (ne_eqb (suc m) 0 (λ e. absurd (omega arith))) (all_first n (get_or us 0 0) (words_from 1 m us) r)
+all_front : (n m : ℕ) (us : List ℕ) → m ≤ length us → strictly_rising (take m us) ≡ true → all (leb n) (take m us) ≡ cond (eqb m 0) true (leb n (get_or us 0 0))
+unfolding all
+all_front n zero us h r = rw (eq-eqb 0 0 refl)
+all_front n (suc m) [] h r = absurd (omega arith)
+all_front n (suc m) (u ∷ us) h r = rw (ne_eqb (suc m) 0 (λ e. absurd (omega arith))) (all_first n u (take m us) r)
 
-module _ (z : Sizes) (j : JitterBuffer) (fs : List Float) (us : List ℕ) (long : queue_at (sizes_of z) + (z.target + z.packet) ≤ length fs) where
-  pending : length (view_of z j fs us).waiting ≡ j.pending_len
-  pending = packets_length z.packet 0 (j.pending_len - 0) fs us ∙ sub-zero j.pending_len
+-- question 3 on the fields, where so many may wait
+abbrev pub fields_held : Sizes → JitterBuffer → List ℕ → ℕ → Bool
+fields_held z j us limit =
+    strictly_rising (take j.pending_len us)
+    && (ltb j.playout_len (z.target + z.packet)
+    && (leb j.consecutive_conceals 2
+    && (start_asked z j us
+    && (leb (largest_counter (counters_of j)) limit
+    && ltb j.max_observed_buffered_samples (z.max + z.target + 2 * z.packet)))))
 
-  words : sequences (view_of z j fs us).waiting ≡ words_from 0 j.pending_len us
-  words = sequences_words z.packet 0 (j.pending_len - 0) fs us ∙ rw sub-zero
+pending : (z : Sizes) (j : JitterBuffer) (fs : List Float) (us : List ℕ) → length (view_of z j fs us).waiting ≡ j.pending_len
+pending z j fs us = packets_length z.packet 0 (j.pending_len - 0) fs us ∙ sub-zero j.pending_len
+
+module _ (z : Sizes) (j : JitterBuffer) (fs : List Float) (us : List ℕ) (long : queue_at (sizes_of z) + (z.target + z.packet) ≤ length fs)
+    (fits : j.pending_len ≤ length us) where
+  words : sequences (view_of z j fs us).waiting ≡ take j.pending_len us
+  words = sequences_front z.packet 0 (j.pending_len - 0) fs us (omega arith) ∙ rw sub-zero
 
   queue_asked : ltb (length (view_of z j fs us).queue) (z.target + z.packet) ≡ ltb j.playout_len (z.target + z.packet)
   queue_asked =
@@ -109,32 +99,21 @@ module _ (z : Sizes) (j : JitterBuffer) (fs : List Float) (us : List ℕ) (long 
   queue_is : j.playout_len < z.target + z.packet → length (view_of z j fs us).queue ≡ j.playout_len
   queue_is h = omega (arith, length-take j.playout_len (drop (queue_at (sizes_of z)) fs), length-drop (queue_at (sizes_of z)) fs)
 
-  start_asked_law : (next : Option ℕ) → strictly_rising (words_from 0 j.pending_len us) ≡ true → j.playout_len < z.target + z.packet
+  start_asked_law : (next : Option ℕ) → strictly_rising (take j.pending_len us) ≡ true → j.playout_len < z.target + z.packet
       → start_held (sizes_of z) (next_of next) (view_of z j fs us) ≡ next_asked z j us next
   unfolding start_held next_asked
-  start_asked_law None r h = rw (queue_is h, pending) (both (eqb j.playout_len 0) (ltb (z.packet * j.pending_len) z.target))
+  start_asked_law None r h = rw (queue_is h, pending z j fs us) (both (eqb j.playout_len 0) (ltb (z.packet * j.pending_len) z.target))
     where
       both : (a b : Bool) → a && b ≡ cond a b false
       both true b = refl
       both false b = refl
-  start_asked_law (Some s) r h = rw words (all_words s j.pending_len us r)
+  start_asked_law (Some s) r h = rw words (all_front s j.pending_len us fits r)
 
-  -- question 3 on the fields
-  abbrev pub fields_held : ℕ → Bool
-  fields_held limit =
-      leb j.pending_len (most_waiting (sizes_of z))
-      && (strictly_rising (words_from 0 j.pending_len us)
-      && (ltb j.playout_len (z.target + z.packet)
-      && (leb j.consecutive_conceals 2
-      && (start_asked z j us
-      && (leb (largest_counter (counters_of j)) limit
-      && ltb j.max_observed_buffered_samples (z.max + z.target + 2 * z.packet))))))
-
-  pub held_asked : (limit : ℕ) → buffer_held (sizes_of z) limit (view_of z j fs us) ≡ fields_held limit
+  held_asked : (limit : ℕ) → buffer_held (sizes_of z) limit (view_of z j fs us) ≡ leb j.pending_len (most_waiting (sizes_of z)) && fields_held z j us limit
   unfolding buffer_held
   held_asked limit =
-      rw (pending, words, queue_asked, counters_asked limit (counters_of j))
-      (by_test (strictly_rising (words_from 0 j.pending_len us))
+      rw (pending z j fs us, words, queue_asked, counters_asked limit (counters_of j))
+      (by_test (strictly_rising (take j.pending_len us))
       (λ r. rw r (by_test (ltb j.playout_len (z.target + z.packet))
       (λ q. rw (q, start_asked_law j.next_sequence r (ltb-true _ _ q)))
       (λ q. rw q)))
@@ -142,57 +121,72 @@ module _ (z : Sizes) (j : JitterBuffer) (fs : List Float) (us : List ℕ) (long 
 
 -- ---- the answer
 
--- a test is asked where those before it were answered with yes: what each answer so far is
-pub record Tests (z : Sizes) (j : JitterBuffer) (us : List ℕ) (calls : ℕ) : Type 0 where
-  pub rising : Bool
-  pub queue : Bool
-  pub run : Bool
-  pub start : Bool
-  pub counters : Bool
-  pub by_rising : rising ≡ eqb (most_waiting (sizes_of z)) (length us) && (leb j.pending_len (length us) && strictly_rising (words_from 0 j.pending_len us))
-  pub by_queue : queue ≡ rising && ltb j.playout_len (z.target + z.packet)
-  pub by_run : run ≡ queue && leb j.consecutive_conceals 2
-  pub by_start : start ≡ run && start_asked z j us
-  pub by_counters : counters ≡ start && leb (largest_counter (counters_of j)) (calls * most_calls)
-  pub next : start ≡ true → NextFits (next_of j.next_sequence)
+module _ {z : Sizes} {j : JitterBuffer} {us : List ℕ} {calls : ℕ} (allowed : sizes_allowed (sizes_of z) ≡ true) where
+  pub no_part : (most_waiting (sizes_of z) ≡ length us → length us < j.pending_len) → HeldTold z j us calls false
+  unfolding buffer_held
+  no_part wrong =
+      record {
+        asked = λ fs long. rw allowed
+            (by_test (eqb (most_waiting (sizes_of z)) (length us))
+            (λ y. let same : most_waiting (sizes_of z) ≡ length us = eqb-true _ _ y in let more : most_waiting (sizes_of z) < j.pending_len = omega (arith, wrong same) in rw y (too_many fs more))
+            (λ n. rw n));
+        next = λ e. cc;
+      }
+    where
+      too_many : (fs : List Float) → most_waiting (sizes_of z) < j.pending_len → false ≡ buffer_held (sizes_of z) (calls * most_calls) (view_of z j fs us)
+      too_many fs h = rw (pending z j fs us, lt-leb j.pending_len (most_waiting (sizes_of z)) h)
 
-pub told : {z : Sizes} {j : JitterBuffer} {us : List ℕ} {calls : ℕ} (r : Bool) → sizes_allowed (sizes_of z) ≡ true → (t : Tests z j us calls)
-    → r ≡ t.counters && ltb j.max_observed_buffered_samples (z.max + z.target + 2 * z.packet) → HeldTold z j us calls r
-told {z} {j} {us} {calls} r allowed t e =
-    record {
-      asked = λ fs long. rw (e, t.by_counters, t.by_start, t.by_run, t.by_queue, t.by_rising, allowed)
-          (by_test (eqb (most_waiting (sizes_of z)) (length us))
-          (λ y. let same : most_waiting (sizes_of z) ≡ length us = eqb-true _ _ y in rw (y, held_asked z j fs us long (calls * most_calls), same) (simp and_assoc))
-          (λ n. rw n));
-      next = λ yes.
-          let counters : t.counters ≡ true = ((and-eq-true_iff t.counters _).0 (sym e ∙ yes)).0 in
-          t.next ((and-eq-true_iff t.start _).0 (sym t.by_counters ∙ counters)).0;
-    }
+  pub told : most_waiting (sizes_of z) ≡ length us → j.pending_len ≤ length us → NextFits (next_of j.next_sequence) → (r : Bool)
+      → r ≡ fields_held z j us (calls * most_calls) → HeldTold z j us calls r
+  told same fits next r e =
+      record {
+        asked = λ fs long. rw (e, allowed, same, eq-eqb (length us) (length us) refl, held_asked z j fs us long fits (calls * most_calls), same, le-leb j.pending_len (length us) fits);
+        next = λ e. next;
+      }
 
 -- ---- the loop from the last pair on
 
+-- the pairs that are left are those of a front of the sequences, and b is whether those from its last one on rise
+pub record PairsLeft (us left : List ℕ) (b : Bool) : Type 0 where
+  pub front : left ≡ take (length left) us
+  pub fits : length left ≤ length us
+  pub rising : b ≡ strictly_rising (drop (length left - 1) us)
+
 -- the last sequence alone, or none, rises
-pub rising_last : (us : List ℕ) (n : ℕ) → true ≡ strictly_rising (words_from (n - 1) (n - (n - 1)) us)
-rising_last us zero = rising_none us 0
-rising_last us (suc n) =
-    let one : suc n - (suc n - 1) ≡ 1 = omega arith in
-    rw one (rising_one us (suc n - 1))
+pub rising_last : (us : List ℕ) (i : ℕ) → length us ≤ i + 1 → true ≡ strictly_rising (drop i us)
+unfolding strictly_rising
+rising_last [] zero h = refl
+rising_last [] (suc i) h = refl
+rising_last (u ∷ []) zero h = refl
+rising_last (u ∷ next ∷ us) zero h = absurd (omega arith)
+rising_last (u ∷ us) (suc i) h = rising_last us i (omega arith)
 
-pair_here : (us : List ℕ) (n i : ℕ) → 0 < i → i < n
-    → strictly_rising (words_from (i - 1) (n - (i - 1)) us) ≡ ltb (get_or us (i - 1) 0) (get_or us i 0) && strictly_rising (words_from i (n - i) us)
-pair_here us n i from_one inside =
-    let two : n - (i - 1) ≡ suc (suc (n - i - 1)) = omega arith in
-    let one : suc (n - i - 1) ≡ n - i = omega arith in
-    let here : suc (i - 1) ≡ i = omega arith in
-    rw two
-    (rising_pair us (i - 1) (n - i - 1)
-    ∙ ap (λ (k : ℕ). ltb (get_or us (i - 1) 0) (get_or us k 0) && strictly_rising (words_from k (suc (n - i - 1)) us)) here
-    ∙ ap (λ (k : ℕ). ltb (get_or us (i - 1) 0) (get_or us i 0) && strictly_rising (words_from i k us)) one)
+pub pairs_all : (us left : List ℕ) → left ≡ us → PairsLeft us left true
+pairs_all us left e = rw e (record {
+  front = sym (take_all (length us) us (omega arith));
+  fits = omega arith;
+  rising = rising_last us (length us - 1) (omega arith);
+})
 
--- with one pair more, the answer stays or is no
-pub rises_as_before : (us : List ℕ) (n i : ℕ) (b : Bool) → 0 < i → i < n → get_or us (i - 1) 0 < get_or us i 0 → b ≡ strictly_rising (words_from i (n - i) us)
-    → b ≡ strictly_rising (words_from (i - 1) (n - (i - 1)) us)
-rises_as_before us n i b from_one inside less r = rw (pair_here us n i from_one inside, lt-ltb (get_or us (i - 1) 0) (get_or us i 0) less) r
+-- one pair more
+pair_here : (us : List ℕ) (i : ℕ) → i + 1 < length us
+    → strictly_rising (drop i us) ≡ ltb (get_or us i 0) (get_or us (i + 1) 0) && strictly_rising (drop (i + 1) us)
+unfolding strictly_rising
+pair_here us i h = rw (drop-cons us i 0 (omega arith), add-one i, drop-cons us (suc i) 0 (omega arith))
 
-pub falls_here : (us : List ℕ) (n i : ℕ) → 0 < i → i < n → get_or us i 0 ≤ get_or us (i - 1) 0 → false ≡ strictly_rising (words_from (i - 1) (n - (i - 1)) us)
-falls_here us n i from_one inside not-less = rw (pair_here us n i from_one inside, le-ltb (get_or us (i - 1) 0) (get_or us i 0) not-less)
+pub pair_taken : (us left : List ℕ) (b : Bool) (pair left' : List ℕ) (b' : Bool) → PairsLeft us left b → 2 ≤ length left → pair ≡ drop (length left - 2) left
+    → left' ≡ take (length left - 1) left → b' ≡ ltb (get_or pair 0 0) (get_or pair 1 0) && b → PairsLeft us left' b'
+pair_taken us left b pair left' b' p some e cut h =
+    let n = length left - 2 in
+    let last : n + 1 ≡ length left - 1 = omega arith in
+    let size : length left' ≡ length left - 1 = ap length cut ∙ length-take-le (length left - 1) left (omega arith) in
+    let at : (i : ℕ) → i < 2 → get_or pair i 0 ≡ get_or us (n + i) 0 =
+    λ i few. ap (λ (l : List ℕ). get_or l i 0) e ∙ get_or-drop n left i 0 ∙ ap (λ (l : List ℕ). get_or l (n + i) 0) p.front ∙ get_or-take (length left) us (n + i) 0 (omega arith) in
+    let front : take (length left - 1) left ≡ take (length left - 1) us =
+    ap (λ (l : List ℕ). take (length left - 1) l) p.front ∙ take-take (length left - 1) (length left) us (omega arith) in
+    let next : length left' - 1 ≡ n = omega arith in
+    record {
+      front = cut ∙ front ∙ rw size;
+      fits = omega (arith, size, p.fits);
+      rising = rw (next, pair_here us n (omega (arith, p.fits)), last, ← p.rising, h, at 0 (omega arith), at 1 (omega arith), add-zero n, last);
+    }

@@ -1,13 +1,8 @@
 -- What question 3 asks of the fields. Assumes nothing.
-use Rattle.std.specs.Prelude.{ℕ, zero, suc, ◌*◌, max, Bool, true, false, cond, Option, None, Some, List, [], ◌∷◌, get_or, ltb, leb, eqb}
+use Rattle.std.specs.Prelude.{ℕ, ◌*◌, max, Bool, true, false, cond, Option, None, Some, List, get_or, ltb, leb, eqb}
 use Rattle.model.specs.JitterBuffer.{Counters}
 use Rattle.calls.specs.declared.Sizes.{Sizes}
 use Rattle.jitter_buffer.specs.declared.JitterBuffer.{JitterBuffer}
-
--- the n sequences from place k on
-unfoldable pub words_from : ℕ → ℕ → List ℕ → List ℕ
-words_from k zero us = []
-words_from k (suc n) us = get_or us k 0 ∷ words_from (suc k) n us
 
 -- the largest of the eight counters
 abbrev pub largest_counter : Counters → ℕ

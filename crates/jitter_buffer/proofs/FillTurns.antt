@@ -26,10 +26,10 @@ pub record UnderWay (z : Sizes) (fs₀ : List Float) (us : List ℕ) (j : Jitter
   pub flow : Flow (sizes_of z) (view_of z j fs₀ us) (view_from taken z b fs us)
   pub same : fill f0 (sizes_of z) (view_from taken z b fs us) ≡ fill f0 (sizes_of z) (view_of z j fs₀ us)
 
-pub begins : (z : Sizes) (j : JitterBuffer) (fs : List Float) (us : List ℕ) → CanFill z j fs us → UnderWay z fs us j fs j 0
-begins z j fs us p =
+pub begins : (z : Sizes) (j : JitterBuffer) (fs : List Float) (us : List ℕ) → sizes_allowed (sizes_of z) ≡ true → CanFill z j fs us → UnderWay z fs us j fs j 0
+begins z j fs us ok p =
     record {
-      sizes = p.allowed;
+      sizes = ok;
       lent = p.lent;
       loose = p.loose;
       waiting = p.waiting;
@@ -48,7 +48,7 @@ step_queues filler z b l n = go (step_due (sizes_of z) b) refl
     go (concealed s) e = concealed_queues filler (sizes_of z) b s e
     go stopped e = absurd (n e)
 
-module _ (z : Sizes) (fs₀ : List Float) (us : List ℕ) (j : JitterBuffer) (fs : List Float) (b : JitterBuffer) (taken : ℕ) (w : UnderWay z fs₀ us j fs b taken) where
+module _ {z : Sizes} {fs₀ : List Float} {us : List ℕ} {j : JitterBuffer} {fs : List Float} {b : JitterBuffer} {taken : ℕ} (w : UnderWay z fs₀ us j fs b taken) where
   pub queue_fits : b.playout_len < z.target + z.packet
   queue_fits = queue_below z fs us b.playout_len w.lent w.loose.queue
 
@@ -56,7 +56,6 @@ module _ (z : Sizes) (fs₀ : List Float) (us : List ℕ) (j : JitterBuffer) (fs
   goes_on =
       let a = allowed (sizes_of z) w.sizes in
       record {
-        allowed = w.sizes;
         lent = w.lent;
         loose = w.loose;
         waiting = w.waiting;
@@ -98,7 +97,7 @@ module _ (z : Sizes) (fs₀ : List Float) (us : List ℕ) (j : JitterBuffer) (fs
         omega (arith, a, rw (← turn.0) at q, now, then, queue')
 
   pub can_close : Closing z b fs us taken
-  can_close = record { allowed = w.sizes; lent = w.lent; waiting = w.waiting; place = w.place; queue = queue_fits }
+  can_close = record { lent = w.lent; waiting = w.waiting; place = w.place; queue = queue_fits }
 
   pub ends : step_due (sizes_of z) (view_from taken z b fs us) ≡ stopped → view_from taken z b fs us ≡ fill f0 (sizes_of z) (view_of z j fs₀ us)
   ends e = sym (fill_stopped f0 (sizes_of z) (view_from taken z b fs us) e) ∙ w.same

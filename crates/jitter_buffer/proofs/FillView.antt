@@ -11,7 +11,8 @@ use Rattle.model.specs.JitterBuffer.{Packet, moved, concealed, is_waiting, sampl
 use Rattle.model.proofs.BoolLaws.{by_test}
 use Rattle.model.proofs.Waiting.{RisingFrom, waiting_not_below}
 use Rattle.model.proofs.FillStep.{Loose, lowest}
-use Rattle.areas.proofs.Placed.{part_length, part_part, part_before, part_behind, part_within, get_d_part, placed_within}
+use Rattle.model.proofs.PlacedLaws.{part_length}
+use Rattle.areas.proofs.Placed.{part_part, part_before, part_behind, part_within, get_d_part, placed_within}
 use Rattle.calls.specs.declared.Sizes.{Sizes}
 use Rattle.calls.specs.Views.{sizes_of}
 use Rattle.sizes.specs.View.{queue_at}

@@ -7,7 +7,7 @@ use Rattle.model.specs.Questions.{most_calls, buffer_held}
 use Rattle.model.specs.WholeList.{All}
 use Rattle.model.proofs.FillStep.{PacketKept}
 use Rattle.model.proofs.HeldKept.{NextFits, BufferShaped, KeptWithin, buffer_kept}
-use Rattle.areas.proofs.Placed.{part_length}
+use Rattle.model.proofs.PlacedLaws.{part_length}
 use Rattle.calls.specs.declared.Sizes.{Sizes}
 use Rattle.calls.specs.Views.{sizes_of}
 use Rattle.sizes.specs.View.{queue_at}
@@ -54,7 +54,6 @@ module _ (z : Sizes) (j : JitterBuffer) (fs : List Float) (us : List ℕ) (p : R
   ready_fill =
       let k = ready_kept in
       record {
-        allowed = p.allowed;
         lent = p.lent;
         loose = k.kept.loose;
         waiting = omega (arith, k.kept.waiting, packets_length z.packet 0 (j.pending_len - 0) fs us);

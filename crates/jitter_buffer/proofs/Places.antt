@@ -3,6 +3,8 @@ use Rattle.std.proofs.Common.{◌≡◌, ℕ, zero, suc, ◌+◌, ◌-◌, ◌*�
 use Rattle.model.specs.Bytes.{part, placed}
 use Rattle.model.specs.Sizes.{Sizes, sizes_allowed, most_waiting}
 use Rattle.areas.proofs.Placed.{part_before, part_within}
+use Rattle.calls.specs.declared.Sizes as Code
+use Rattle.calls.specs.Views.{sizes_of}
 use Rattle.sizes.specs.View.{queue_at}
 use Rattle.sizes.proofs.Bounds.{waiting_samples_bound}
 use Rattle.jitter_buffer.specs.View.{packets_from}
@@ -62,5 +64,10 @@ queue_low z ok = waiting_samples_bound z ok
 pub rest_sum : (packet taken n : ℕ) → taken ≤ n → taken * packet + (n - taken) * packet ≡ n * packet
 rest_sum packet taken n place = sym (add-mul taken (n - taken) packet) ∙ ap (λ (k : ℕ). k * packet) (omega arith)
 
-pub rest_ends : (z : Sizes) (taken n : ℕ) → taken ≤ n → n ≤ most_waiting z → taken * z.packet + (n - taken) * z.packet ≤ queue_at z
-rest_ends z taken n place most = omega (arith, rest_sum z.packet taken n place, places_end z n most)
+-- ---- of the products as the code has them
+
+pub place_inside : (z : Code.Sizes) {i : ℕ} → i < most_waiting (sizes_of z) → i * z.packet + z.packet ≤ queue_at (sizes_of z)
+place_inside z h = place_ends (sizes_of z) _ h
+
+pub rest_ends : (z : Code.Sizes) {taken n : ℕ} → taken ≤ n → n ≤ most_waiting (sizes_of z) → taken * z.packet + (n - taken) * z.packet ≤ queue_at (sizes_of z)
+rest_ends z {taken} {n} place most = omega (arith, rest_sum z.packet taken n place, places_end (sizes_of z) n most)

@@ -44,7 +44,6 @@ pub record BufferedAmount (z : Sizes) (j : JitterBuffer) (r : ℕ) : Type 0 wher
 
 -- a packet may go to the end of a queue that is below target, in a part of so many floats
 pub record QueueOpen (z : Sizes) (j : JitterBuffer) (floats : ℕ) : Type 0 where
-  pub allowed : sizes_allowed (sizes_of z) ≡ true
   pub fits : queue_at (sizes_of z) + (z.target + z.packet) ≤ floats
   pub queue : j.playout_len < z.target
 
@@ -57,7 +56,6 @@ pub record CanConceal (z : Sizes) (j : JitterBuffer) : Type 0 where
 
 -- a fill is under way, and has taken the packets before a place
 pub record Filling (z : Sizes) (j : JitterBuffer) (fs : List Float) (us : List ℕ) (taken : ℕ) : Type 0 where
-  pub allowed : sizes_allowed (sizes_of z) ≡ true
   pub lent : Lent z fs us
   pub loose : Loose (sizes_of z) (view_from taken z j fs us)
   pub waiting : j.pending_len ≤ most_waiting (sizes_of z)
@@ -81,7 +79,6 @@ pub record FillCounts (j : JitterBuffer) : Type 0 where
 
 -- a fill may begin
 pub record CanFill (z : Sizes) (j : JitterBuffer) (fs : List Float) (us : List ℕ) : Type 0 where
-  pub allowed : sizes_allowed (sizes_of z) ≡ true
   pub lent : Lent z fs us
   pub loose : Loose (sizes_of z) (view_of z j fs us)
   pub waiting : j.pending_len ≤ most_waiting (sizes_of z)
@@ -89,7 +86,6 @@ pub record CanFill (z : Sizes) (j : JitterBuffer) (fs : List Float) (us : List �
 
 -- the packets before a place may go
 pub record Closing (z : Sizes) (j : JitterBuffer) (fs : List Float) (us : List ℕ) (taken : ℕ) : Type 0 where
-  pub allowed : sizes_allowed (sizes_of z) ≡ true
   pub lent : Lent z fs us
   pub waiting : j.pending_len ≤ most_waiting (sizes_of z)
   pub place : taken ≤ j.pending_len

@@ -1,20 +1,19 @@
 -- What a play's code leaves of the queue and writes to the output is what the model's play hands out. Assumes nothing.
-use mathlib.Core.Path.{◌≡◌, sym, ◌∙◌, ap}
-use mathlib.Core.List.{List, [], ◌∷◌, ◌++◌, append-nil}
-use Prim.Native.Nat.{ℕ, zero, suc, ◌+◌, ◌-◌, ◌≤◌, ◌<◌, min}
-use native.Mathlib.Nat.{add-zero, sub-zero}
+use mathlib.Core.Path.{◌≡◌, sym, ◌∙◌}
+use mathlib.Core.List.{List, ◌++◌, append-nil}
+use Prim.Native.Nat.{ℕ, ◌+◌, ◌-◌, ◌≤◌, ◌<◌, min}
+use native.Mathlib.Nat.{add-zero}
 use native.Mathlib.Omega.{arith}
-use lib.ListN.{length, take, drop, replicate, length-take, length-replicate, drop_of_length-le}
-use lib.Seq.{take-nil, drop-drop, take-take, take_all, drop-append-add, take-append_seam}
-use lib.Dec.{leb}
+use lib.ListN.{length, take, drop, replicate, length-replicate, drop_of_length-le}
+use lib.Seq.{drop-drop, take_all, drop-append-add, take-append_seam}
 use lib.Ieee.{Float, nan}
-use borrow.Author.Tests.{leb-true, leb-false}
+use Rattle.std.proofs.lemmas.List.{take_min, drop_min}
 use Rattle.model.specs.Bytes.{part, placed}
 use Rattle.model.specs.Floats.{f0}
 use Rattle.model.specs.Sizes.{most_waiting}
 use Rattle.model.specs.JitterBuffer.{hand_out, count_short}
-use Rattle.model.proofs.BoolLaws.{by_test}
-use Rattle.areas.proofs.Placed.{part_length, part_within}
+use Rattle.model.proofs.PlacedLaws.{part_length, take_part, drop_part}
+use Rattle.areas.proofs.Placed.{part_within}
 use Rattle.calls.specs.declared.Sizes.{Sizes}
 use Rattle.calls.specs.Views.{sizes_of}
 use Rattle.sizes.specs.View.{queue_at}
@@ -25,24 +24,6 @@ use Rattle.jitter_buffer.specs.Promises.{Lent}
 use Rattle.jitter_buffer.proofs.FillView.{waiting_stays}
 
 module _ {ℓ} {A : Type ℓ} where
-  pub drop_part : (k at n : ℕ) (xs : List A) → drop k (part at n xs) ≡ part (at + k) (n - k) xs
-  drop_part k at n xs = drop_take k n (drop at xs) ∙ ap (λ (l : List A). take (n - k) l) (drop-drop k at xs)
-    where
-      drop_take : (k n : ℕ) (l : List A) → drop k (take n l) ≡ take (n - k) (drop k l)
-      drop_take zero n l = rw sub-zero
-      drop_take (suc k) zero l = let e : 0 - suc k ≡ 0 = omega arith in rw e
-      drop_take (suc k) (suc n) [] = sym (take-nil (suc n - suc k))
-      drop_take (suc k) (suc n) (x ∷ xs) = let e : suc n - suc k ≡ n - k = omega arith in rw e (drop_take k n xs)
-
-  -- as many as are there, of those that are asked
-  pub take_part : (n at m : ℕ) (xs : List A) → take n (part at m xs) ≡ part at (min n m) xs
-  take_part n at m xs =
-      by_test (leb n m)
-      (λ t. let le = leb-true n m t in let e : min n m ≡ n = omega arith in rw e (take-take n m (drop at xs) le))
-      (λ t. let lt = leb-false n m t in
-      let e : min n m ≡ m = omega arith in
-      rw e (take_all n (part at m xs) (omega (arith, length-take m (drop at xs)))))
-
   -- two lists that are written one behind the other, and are as long as what they cover
   pub placed_all : (ys zs xs : List A) → length ys + length zs ≡ length xs → placed (length ys) zs (placed 0 ys xs) ≡ ys ++ zs
   unfolding placed
@@ -58,7 +39,7 @@ module _ {ℓ} {A : Type ℓ} where
 module _ (z : Sizes) (j : JitterBuffer) (fs : List Float) (us : List ℕ) (lent : Lent z fs us) (most : j.pending_len ≤ most_waiting (sizes_of z))
     (fits : j.playout_len < z.target + z.packet) (n d : ℕ) (in_queue : d ≤ j.playout_len) where
   left : drop d (view_of z j fs us).queue ≡ part (queue_at (sizes_of z) + d) (j.playout_len - d) fs
-  left = drop_part d (queue_at (sizes_of z)) j.playout_len fs
+  left = drop_part (queue_at (sizes_of z)) d j.playout_len fs in_queue
 
   pub left_length : length (drop d (view_of z j fs us).queue) ≡ j.playout_len - d
   left_length = rw left (part_length (queue_at (sizes_of z) + d) (j.playout_len - d) fs (omega (arith, lent.floats)))
@@ -69,14 +50,13 @@ module _ (z : Sizes) (j : JitterBuffer) (fs : List Float) (us : List ℕ) (lent 
 
   rest : drop n (drop d (view_of z j fs us).queue) ≡ part (queue_at (sizes_of z) + d + taken) (j.playout_len - d - taken) fs
   rest =
-      rw (left, drop_part n (queue_at (sizes_of z) + d) (j.playout_len - d) fs)
-      (by_test (leb n (j.playout_len - d))
-      (λ t. let le = leb-true n (j.playout_len - d) t in let e : taken ≡ n = omega arith in rw e)
-      (λ t. let lt = leb-false n (j.playout_len - d) t in
-      let e : taken ≡ j.playout_len - d = omega arith in
-      let none : j.playout_len - d - n ≡ 0 = omega arith in
-      let none' : j.playout_len - d - (j.playout_len - d) ≡ 0 = omega arith in
-      rw (e, none, none')))
+      sym (drop_min n (drop d (view_of z j fs us).queue))
+      ∙ rw (left_length, left) (drop_part (queue_at (sizes_of z) + d) taken (j.playout_len - d) fs (omega arith))
+
+  front : take n (drop d (view_of z j fs us).queue) ≡ part (queue_at (sizes_of z) + d) taken fs
+  front =
+      sym (take_min n (drop d (view_of z j fs us).queue))
+      ∙ rw (left_length, left) (take_part (queue_at (sizes_of z) + d) taken (j.playout_len - d) fs (omega arith))
 
   pub handed_view : view_of z (played_fields (j.playout_len - d - taken) (n - taken) j)
       (placed (queue_at (sizes_of z)) (part (queue_at (sizes_of z) + d + taken) (j.playout_len - d - taken) fs) fs) us
@@ -100,7 +80,7 @@ module _ (z : Sizes) (j : JitterBuffer) (fs : List Float) (us : List ℕ) (lent 
       let size : length ys ≡ taken = part_length (queue_at (sizes_of z) + d) taken fs (omega (arith, lent.floats)) in
       let short : n - length (drop d (view_of z j fs us).queue) ≡ n - taken = omega (arith, left_length) in
       let all = placed_all ys (replicate (n - taken) f0) out (omega (arith, length-replicate (n - taken) f0)) in
-      rw (short, left, take_part n (queue_at (sizes_of z) + d) (j.playout_len - d) fs) (rw size at all)
+      rw (short, front) (rw size at all)
 
   pub handed_taken : taken ≡ (hand_out f0 n d (view_of z j fs us)).answer.taken
   unfolding hand_out

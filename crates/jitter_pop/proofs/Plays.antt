@@ -10,6 +10,7 @@ use lib.Dec.{leb}
 use lib.Ieee.{Float}
 use borrow.Author.Tests.{le-leb, lt-leb}
 use Rattle.model.specs.Floats.{f0}
+use Rattle.model.specs.Sizes.{sizes_allowed}
 use Rattle.model.specs.JitterBuffer.{Buffer, is_started, fill, too_long, drop_count, hand_out, play_filled, play_fillers, play, counting, count_short}
 use Rattle.model.proofs.Play.{drop_in_queue}
 use Rattle.calls.specs.declared.Sizes.{Sizes}
@@ -37,9 +38,9 @@ drop_none_little z q h = rw (lt-leb (z.packet / 4) (q - z.target) h) (no_second 
     no_second true = refl
     no_second false = refl
 
-pub drop_some : (z : Sizes) (q : ℕ) → z.target < q → z.packet / 4 ≤ q - z.target → min 16 q ≡ drop_count (sizes_of z) q
+pub drop_some : (z : Sizes) (q : ℕ) → z.target < q → z.packet / 4 ≤ q - z.target → min q 16 ≡ drop_count (sizes_of z) q
 unfolding drop_count too_long
-drop_some z q more h = rw (le-leb 1 (q - z.target) (omega arith), le-leb (z.packet / 4) (q - z.target) h)
+drop_some z q more h = let same : min q 16 ≡ min 16 q = omega arith in rw (same, le-leb 1 (q - z.target) (omega arith), le-leb (z.packet / 4) (q - z.target) h)
 
 dropped_is : (n d : ℕ) (b : Buffer Float) → d ≡ (hand_out f0 n d b).answer.dropped
 unfolding hand_out
@@ -47,17 +48,16 @@ dropped_is n d b = refl
 
 -- ---- after the fill
 
-module _ (z : Sizes) (j : JitterBuffer) (fs : List Float) (us : List ℕ) (p : CanFill z j fs us)
+module _ (z : Sizes) (j : JitterBuffer) (fs : List Float) (us : List ℕ) (ok : sizes_allowed (sizes_of z) ≡ true) (p : CanFill z j fs us)
     (b : JitterBuffer) (fs₁ : List Float) (us₁ : List ℕ) (lent : Lent z fs₁ us₁)
     (view : view_of z b fs₁ us₁ ≡ fill f0 (sizes_of z) (view_of z j fs us)) where
   pub can_hand_out : (n : ℕ) → n ≤ 65535 → CanHandOut z b (length fs₁) n (drop_count (sizes_of z) b.playout_len)
   can_hand_out n few =
       record {
-        allowed = p.allowed;
         fits = omega (arith, lent.floats);
-        queue = after_queue z j fs us p b fs₁ us₁ lent view;
+        queue = after_queue z ok j fs us p b fs₁ us₁ lent view;
         in_queue = drop_in_queue (sizes_of z) b.playout_len;
-        filled = omega (arith, after_filled z j fs us p b fs₁ us₁ lent view, p.counts.filled);
+        filled = omega (arith, after_filled z ok j fs us p b fs₁ us₁ lent view, p.counts.filled);
       }
 
   pub plays : (out : List Float) (r : Popped) (fs₂ out₂ : List Float) → HandedOut z b fs₁ out (drop_count (sizes_of z) b.playout_len) r fs₂ out₂
@@ -66,9 +66,9 @@ module _ (z : Sizes) (j : JitterBuffer) (fs : List Float) (us : List ℕ) (p : C
   plays out r fs₂ out₂ h =
       let d = drop_count (sizes_of z) b.playout_len in
       let in_queue = drop_in_queue (sizes_of z) b.playout_len in
-      let waiting = after_waiting z j fs us p b fs₁ us₁ lent view in
-      let queue = after_queue z j fs us p b fs₁ us₁ lent view in
-      rw (← view, after_length z j fs us p b fs₁ us₁ lent view) (record {
+      let waiting = after_waiting z ok j fs us p b fs₁ us₁ lent view in
+      let queue = after_queue z ok j fs us p b fs₁ us₁ lent view in
+      rw (← view, after_length z ok j fs us p b fs₁ us₁ lent view) (record {
         view = rw (h.buffer, h.floats, h.lacks, h.took) (handed_view z b fs₁ us₁ lent waiting queue (length out) d in_queue);
         samples = rw (h.samples, h.lacks, h.took) (handed_samples z b fs₁ us₁ lent waiting queue (length out) d in_queue out refl);
         took = rw h.took (handed_taken z b fs₁ us₁ lent waiting queue (length out) d in_queue);

@@ -9,4 +9,4 @@ played_fields queued short j = record j { playout_len = queued; filled = j.fille
 
 -- a play of so many samples before the start
 abbrev pub silence_popped : ℕ → JitterBuffer → Popped
-silence_popped n j = record { buffer = played_fields j.playout_len n j; taken = 0; dropped = 0; short = n }
+silence_popped n j = record { buffer = played_fields j.playout_len n j; played = record { taken = 0; dropped = 0; short = n } }

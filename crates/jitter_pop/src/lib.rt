@@ -12,21 +12,19 @@ ghost use Rattle.jitter_buffer.specs.Promises.{Ready};
 ghost use Rattle.jitter_pop.specs.Fields.{silence_popped};
 ghost use Rattle.jitter_pop.specs.Promises.{CanHandOut, HandedOut, CanPlay, PlayedAs, PopDone};
 
-use calls::Sizes;
+use calls::{PlayedSamples, Sizes};
 use jitter_buffer::JitterBuffer;
 use sizes::AllowedSizes;
 
-// What a play leaves and answers: the samples that were queued, those dropped before them, and those
-// that were made up behind them.
+// What a play leaves and answers.
 #[derive(Clone, Copy)]
 pub struct Popped {
     pub buffer: JitterBuffer,
-    pub taken: usize,
-    pub dropped: usize,
-    pub short: usize,
+    pub played: PlayedSamples,
 }
 
 // How many samples a play drops of a queue of so many: the 16 oldest, where latency grows above target.
+#[tactic(auto, using(crate::proofs::Plays::drop_none_short, crate::proofs::Plays::drop_none_little, crate::proofs::Plays::drop_some))]
 fn apply_drift_correction(z: Sizes, queued: usize) -> usize
     ensures { result ≡ drop_count (sizes_of z) queued }
 {
@@ -41,17 +39,23 @@ fn apply_drift_correction(z: Sizes, queued: usize) -> usize
 }
 
 // Fills the output from the queue, behind the samples that are dropped, and with silence past its end.
-fn hand_out(z: Sizes, j: JitterBuffer, fs: &mut [f32], out: &mut [f32], dropped: usize) -> Popped
-    requires { CanHandOut z j (length fs.old) (length out.old) dropped }
-    ensures { HandedOut z j fs.old out.old dropped result fs.new out.new }
+#[tactic(auto, using(model::proofs::SizeLaws::allowed, jitter_buffer::proofs::Places::queue_low))]
+fn hand_out(
+    z: AllowedSizes,
+    j: JitterBuffer,
+    fs: &mut [f32],
+    out: &mut [f32],
+    dropped: usize,
+) -> Popped
+    requires { CanHandOut z.sizes j (length fs.old) (length out.old) dropped }
+    ensures { HandedOut z.sizes j fs.old out.old dropped result fs.new out.new }
 {
     let n = out.len();
     let left = j.playout_len - dropped;
     let taken = n.min(left);
     let short = n - taken;
     let rest = left - taken;
-    let offsets = AllowedSizes { sizes: z }.section_offsets();
-    let queue = offsets.queue;
+    let queue = z.section_offsets().queue;
     let from = queue + dropped;
     let after = from + taken;
     out[..taken].copy_from_slice(&fs[from..after]);
@@ -63,9 +67,11 @@ fn hand_out(z: Sizes, j: JitterBuffer, fs: &mut [f32], out: &mut [f32], dropped:
             filled: j.filled + short as u64,
             ..j
         },
-        taken,
-        dropped,
-        short,
+        played: PlayedSamples {
+            taken,
+            dropped,
+            short,
+        },
     }
 }
 
@@ -81,24 +87,33 @@ fn pop_silence(j: JitterBuffer, out: &mut [f32]) -> Popped
             filled: j.filled + n as u64,
             ..j
         },
-        taken: 0,
-        dropped: 0,
-        short: n,
+        played: PlayedSamples {
+            taken: 0,
+            dropped: 0,
+            short: n,
+        },
     }
 }
 
 // A play after the start: fill, drop, take.
-fn pop_filled(z: Sizes, j: JitterBuffer, fs: &mut [f32], us: &mut [u32], out: &mut [f32]) -> Popped
-    requires { CanPlay z j fs.old us.old (length out.old) }
-    ensures { PlayedAs z (play_filled f0 (sizes_of z) (length out.old) (fill f0 (sizes_of z) (view_of z j fs.old us.old))) result fs.new us.new out.new }
+fn pop_filled(
+    z: AllowedSizes,
+    j: JitterBuffer,
+    fs: &mut [f32],
+    us: &mut [u32],
+    out: &mut [f32],
+) -> Popped
+    requires { CanPlay z.sizes j fs.old us.old (length out.old) }
+    ensures { PlayedAs z.sizes (play_filled f0 (sizes_of z.sizes) (length out.old) (fill f0 (sizes_of z.sizes) (view_of z.sizes j fs.old us.old))) result fs.new us.new out.new }
 {
     let b = jitter_buffer::fill_playout(z, j, fs, us);
     let queued = b.playout_len;
-    let dropped = apply_drift_correction(z, queued);
+    let dropped = apply_drift_correction(z.sizes, queued);
     hand_out(z, b, fs, out, dropped)
 }
 
-// Pops audio into the output. Before the start it is silence; past the end of the queue, too.
+// Pops audio into the output. Before the start it is silence; past the end of the queue, too. That the sizes are allowed stands
+// in `Ready`, beside what they are asked of, so the call takes them as they are and writes `AllowedSizes` down once.
 pub fn pop_samples(
     j: JitterBuffer,
     z: Sizes,
@@ -111,6 +126,6 @@ pub fn pop_samples(
 {
     match j.next_sequence {
         None => pop_silence(j, out),
-        Some(_) => pop_filled(z, j, fs, us, out),
+        Some(_) => pop_filled(AllowedSizes { sizes: z }, j, fs, us, out),
     }
 }

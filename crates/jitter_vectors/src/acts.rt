@@ -2,20 +2,13 @@
 use calls::{Estimates, Refusal, Side, Sizes};
 use receiver_setup::setup;
 use receiver_state::{Answer, Answered, Receiver};
-
-// What a header says, but for its timestamp.
-#[derive(Clone, Copy)]
-pub struct Header {
-    pub magic: u16,
-    pub version: u8,
-    pub stream_type: u8,
-    pub sequence: u32,
-}
+use udp_framing::big_endian::BigEndian;
+use udp_framing::{MAGIC, MediaHeader, StreamType};
 
 // A call. A datagram has samples that count up from the number, and so many bytes; a play so many samples.
 #[derive(Clone, Copy)]
 pub enum Act {
-    Datagram(Header, u64, usize),
+    Datagram(MediaHeader, u64, usize),
     Play(usize),
     Reset,
 }
@@ -43,34 +36,27 @@ pub struct Player {
     pub lent: Lent,
 }
 
-fn no_estimates() -> Estimates {
-    Estimates {
-        top: 0,
-        floor: 0,
-        range: 0,
-    }
-}
-
 // A channel's sound, in version 1.
-pub fn sound(side: Side, sequence: u32) -> Header {
+pub fn sound(side: Side, sequence: u32) -> MediaHeader {
     let stream_type = match side {
-        Side::A => 1,
-        Side::B => 3,
+        Side::A => StreamType::Audio,
+        Side::B => StreamType::AudioVfoB,
     };
-    Header {
-        magic: 0x5253,
+    MediaHeader {
+        magic: MAGIC,
         version: 1,
-        stream_type,
+        stream_type: u8::from(stream_type),
         sequence,
+        timestamp: 0,
     }
 }
 
-// The timestamp stays what it was.
-fn write_header(bytes: &mut [u8; 272], h: Header) {
-    bytes[0..2].copy_from_slice(&h.magic.to_be_bytes());
-    bytes[2] = h.version;
-    bytes[3] = h.stream_type;
-    bytes[4..8].copy_from_slice(&h.sequence.to_be_bytes());
+fn write_header(bytes: &mut [u8; 272], h: MediaHeader) {
+    h.magic.write_to(bytes, 0);
+    h.version.write_to(bytes, 2);
+    h.stream_type.write_to(bytes, 3);
+    h.sequence.write_to(bytes, 4);
+    h.timestamp.write_to(bytes, 8);
 }
 
 // The samples first, first + 1 and so on, in 16 bits, two bytes to each.
@@ -82,7 +68,7 @@ fn count_up(bytes: &mut [u8; 272], first: u64) {
 }
 
 // This header, and samples that count up.
-fn datagram(h: Header, first: u64) -> [u8; 272] {
+fn datagram(h: MediaHeader, first: u64) -> [u8; 272] {
     let mut bytes = [9u8; 272];
     write_header(&mut bytes, h);
     count_up(&mut bytes, first);
@@ -102,7 +88,7 @@ impl Areas {
     pub fn set_up(&mut self, z: Sizes, lent: Lent) -> Result<Receiver, Refusal> {
         let fs = self.fs.get(..lent.floats).ok_or(Refusal::BadWord)?;
         let us = self.us.get_mut(..lent.words).ok_or(Refusal::BadWord)?;
-        setup(z, no_estimates(), no_estimates(), fs, us)
+        setup(z, Estimates::default(), Estimates::default(), fs, us)
     }
 }
 

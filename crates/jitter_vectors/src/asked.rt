@@ -1,6 +1,6 @@
 // A receiver that plays, one change to it or to what it is lent, and a call: what the call answers, and after a refusal
 // that nothing else is changed.
-use crate::acts::{Act, Areas, Header, Lent, Player, sound};
+use crate::acts::{Act, Areas, Lent, Player, sound};
 use crate::bench::{Failed, begun, ended_as, in_turn};
 use crate::compare::{Difference, refused_alike, same, sound_numbers};
 use crate::session::sizes;
@@ -8,6 +8,8 @@ use calls::{Refusal, Side, Sizes};
 use numbers::put;
 use receiver_state::sides::{channel_of, with_channel};
 use receiver_state::{Answer, Receiver};
+use std::array;
+use udp_framing::MediaHeader;
 
 #[derive(Clone, Copy)]
 pub enum Change {
@@ -83,27 +85,19 @@ fn on_side(a: Act, side: Side) -> Act {
     match (a, side) {
         (Act::Datagram(h, first, n), Side::B) => {
             let stream_type = h.stream_type % 128 + 2;
-            Act::Datagram(Header { stream_type, ..h }, first, n)
+            Act::Datagram(MediaHeader { stream_type, ..h }, first, n)
         }
         _ => a,
     }
 }
 
-// The sizes, the numbers of calls and headers, the counts of streams 1 and 2, and what waits and is queued on each
-// channel.
-fn head(r: Receiver) -> [u64; 18] {
-    let z = r.sizes;
+// The numbers of calls and headers, the counts of streams 1 and 2, and what waits and is queued on each channel.
+fn head(r: Receiver) -> [u64; 12] {
     let audio = r.audio;
     let rows = r.waterfall;
     let a = channel_of(r, Side::A).jitter;
     let b = channel_of(r, Side::B).jitter;
     [
-        z.packet as u64,
-        z.target as u64,
-        z.max as u64,
-        z.bins as u64,
-        z.width as u64,
-        z.height as u64,
         r.calls,
         r.incoming,
         audio.packets,
@@ -123,11 +117,7 @@ fn head(r: Receiver) -> [u64; 18] {
 fn words<const N: usize, T: Copy, F: Fn(T) -> u64>(values: &[T], word: F) -> [u64; N]
     requires { F.IsAlwaysCallable word }
 {
-    let mut all = [0u64; N];
-    for (place, x) in all.iter_mut().zip(values) {
-        *place = word(*x);
-    }
-    all
+    array::from_fn(|i| values.get(i).map_or(0, |x| word(*x)))
 }
 
 fn float_word(x: f32) -> u64 {
@@ -138,7 +128,8 @@ fn float_word(x: f32) -> u64 {
 fn everything(p: &Player) -> [u64; 119] {
     let r = p.receiver;
     let mut all = [0u64; 119];
-    put(&mut all, 0, &head(r));
+    put(&mut all, 0, &r.sizes.numbers());
+    put(&mut all, 6, &head(r));
     put(&mut all, 18, &sound_numbers(r, Side::A));
     put(&mut all, 31, &sound_numbers(r, Side::B));
     put(&mut all, 44, &words::<64, f32, _>(&p.areas.fs, float_word));

@@ -1,4 +1,6 @@
 // What was found after a call, against what a session's line expects, and against what was there before.
+ghost use Rattle.std.specs.Prelude.{◌≡◌, length};
+
 use calls::{Refusal, Side};
 use receiver_state::Receiver;
 use receiver_state::readings::buffered_samples;
@@ -122,16 +124,18 @@ fn agrees(
     })
 }
 
-// Numbers, each under its name, against those of a line. The answer is what is behind the last.
+// Numbers, each under its name, against those of a line. The answer is what is behind the last. (No arrays of one length: the check does
+// not cover an array of references whose length is a parameter.)
 pub fn numbers_agree<'a>(
     found: &[u64],
     names: &[&'static str],
     line: &'a str,
-) -> Result<&'a str, Difference> {
+) -> Result<&'a str, Difference>
+    requires { length found.now ≡ length names.now }
+{
     let mut rest = line;
-    for (i, number) in found.iter().enumerate() {
+    for (number, name) in found.iter().zip(names) {
         let (word, behind) = first_word(rest);
-        let name = names.get(i).copied().unwrap_or("number");
         agrees(name, None, *number, word.parse().ok())?;
         rest = behind;
     }

@@ -1,11 +1,12 @@
 // Calls that must be refused, by the question that refuses them, beside ones that must not: sizes at which
 // the original panics and sizes that are too large, areas one place too short, states that no receiver has, plays and
 // datagrams out of their bounds.
-use crate::acts::{Act, Header, Lent};
+use crate::acts::{Act, Lent};
 use crate::asked::{Change, Changes, Expect, all_called, called, exact, set_up};
 use crate::bench::{Bench, in_turn};
 use crate::session::sizes;
 use calls::{Refusal, Side, Sizes};
+use udp_framing::MediaHeader;
 
 // A setup of these sizes on so many places, and all calls of a state with these sizes.
 fn sized(b: &mut Bench, name: &str, z: Sizes, lent: Lent, expect: Expect) {
@@ -25,11 +26,12 @@ fn held(b: &mut Bench, states: &[(&str, Change, Expect)]) {
 }
 
 fn datagram(magic: u16, version: u8, stream_type: u8, n: usize) -> Act {
-    let header = Header {
+    let header = MediaHeader {
         magic,
         version,
         stream_type,
         sequence: 14,
+        timestamp: 0,
     };
     Act::Datagram(header, 1, n)
 }

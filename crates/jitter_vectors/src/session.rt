@@ -60,19 +60,11 @@ fn line_agrees(
         return ends(numbers_agree(found, &SOUND, line)?);
     };
     let played = out.get(..n).ok_or(no_call())?;
-    let Ok(
-        Answer::Played {
-            taken,
-            dropped,
-            short,
-        },
-    ) = answer
-    else {
+    let Ok(Answer::Played(p)) = answer else {
         return Err(refused_by(answer.err()));
     };
     let rest = numbers_agree(found, &SOUND, line)?;
-    let amounts = [taken as u64, dropped as u64, short as u64];
-    let samples = numbers_agree(&amounts, &PLAY, rest)?;
+    let samples = numbers_agree(&p.words(), &PLAY, rest)?;
     ends(samples_agree(played, samples)?)
 }
 

@@ -16,6 +16,7 @@ use Rattle.model.specs.JitterBuffer.{Counters, Played}
 use Rattle.model.specs.Clock as Clock
 use Rattle.model.specs.Replay.{decimal, hex_bits, line, rest, or_dash, side_letter, play_line, row_line, refused_line, bad_tape_line, channel_line, clock_line}
 use Rattle.std.proofs.Common.{Option, Some}
+use Rattle.std.proofs.lemmas.List.{map-append}
 use Rattle.text.proofs.FittedLaws.{Fitted}
 use Rattle.text.proofs.WrittenLaws.{byte_placed}
 use Rattle.lines.specs.Lines.{spaced, head, offset_word, round_trip_word, clock_text, Piece}
@@ -89,11 +90,7 @@ row_line_pieces side values = simp (rest_is_spaced, append_assoc)
 -- values go on where those before them ended
 pub values_go_on : (k : ℕ) (xs : List Float) → spaced (map hex_bits xs) ≡ spaced (map hex_bits (take k xs)) ++ spaced (map hex_bits (drop k xs))
 values_go_on k xs =
-    ap (λ (ys : List Float). spaced (map hex_bits ys)) (sym (take-append-drop k xs)) ∙ ap spaced (map_append_lists (take k xs)) ∙ spaced_append _ _
-  where
-    map_append_lists : (ys : List Float) → map hex_bits (ys ++ drop k xs) ≡ map hex_bits ys ++ map hex_bits (drop k xs)
-    map_append_lists [] = refl
-    map_append_lists (y ∷ ys) = ap (λ (zs : List (List ℕ)). hex_bits y ∷ zs) (map_append_lists ys)
+    ap (λ (ys : List Float). spaced (map hex_bits ys)) (sym (take-append-drop k xs)) ∙ ap spaced (map-append hex_bits (take k xs) (drop k xs)) ∙ spaced_append _ _
 
 -- refusals
 pub refused_line_is : (n : ℕ) → refused_line n ≡ line 88 (map decimal (n ∷ []))

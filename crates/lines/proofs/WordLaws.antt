@@ -13,13 +13,14 @@ use Rattle.audio_metrics.specs.Views.{known_of, timing_of, delay_of}
 use Rattle.audio_metrics.specs.declared.ClockTiming.{ClockTiming}
 use Rattle.model.specs.Floats.{to_bits}
 use Rattle.model.proofs.Decimal.{decimal_at_most, hex_digits_length}
+use Rattle.model.proofs.PlacedLaws.{none_placed}
 use lib.IntN.{ℤ, pos, negsuc}
 use lib.Ieee.{Float}
 use mir.Syntax.{w64}
 use mir.Val.{Fits, SFits}
 use Rattle.std.proofs.Common.{Option, None, Some, MatchOption, IsSomeAnd}
+use Rattle.std.proofs.lemmas.List.{map_push}
 use Rattle.text.proofs.FittedLaws.{Fitted, fitted_behind}
-use Rattle.text.proofs.WrittenLaws.{none_placed}
 use Rattle.lines.specs.Lines.{spaced, word_or_dash}
 
 -- a line's words, and then its end
@@ -41,14 +42,10 @@ digits_few n wide = decimal_at_most 19 n (omega arith)
 
 -- one word more, of a list's element
 module _ {A : Type 0} (f : A → List ℕ) (d : A) where
-  map_append : (ys : List A) (y : A) → map f (ys ++ (y ∷ [])) ≡ map f ys ++ (f y ∷ [])
-  map_append [] y = refl
-  map_append (x ∷ ys) y = ap (λ (zs : List (List ℕ)). f x ∷ zs) (map_append ys y)
-
   words_one_more : (xs : List A) (i : ℕ) → i < length xs → spaced (map f (take (i + 1) xs)) ≡ spaced (map f (take i xs)) ++ (32 ∷ f (get_or xs i d))
   unfolding spaced
   words_one_more xs i h =
-      rw (add-one, take-suc xs i d) (ap spaced (map_append (take i xs) (get_or xs i d)) ∙ spaced_append (map f (take i xs)) (f (get_or xs i d) ∷ [])
+      rw (add-one, take-suc xs i d) (ap spaced (map_push f (take i xs) (get_or xs i d)) ∙ spaced_append (map f (take i xs)) (f (get_or xs i d) ∷ [])
       ∙ ap (λ (ys : List ℕ). spaced (map f (take i xs)) ++ (32 ∷ ys)) (append-nil (f (get_or xs i d))))
 
   pub one_word_more : (xs : List A) (i : ℕ) {at next end : ℕ} {first middle last : List ℕ} → i < length xs

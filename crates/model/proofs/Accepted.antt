@@ -16,7 +16,7 @@ use Rattle.model.specs.Receiver.{Call, datagram, play, set, probe, one_way, dept
 use Rattle.model.specs.Questions.{Question, most_added, first_no, own_questions, stream_allowed, clock_held}
 use Rattle.model.specs.Step.{ChannelResult, with_buffer, reset_channel, on_side, on_clock, counts_after, count_header, dispatch, take_datagram, changes, one_call_more, accept}
 use Rattle.model.specs.WholeList.{CallBytes}
-use Rattle.model.proofs.BoolLaws.{by_test, cond_keeps, clash}
+use Rattle.model.proofs.BoolLaws.{by_test, cond_keeps}
 use Rattle.model.proofs.FieldRange.{Bytes, sequence_below}
 use Rattle.model.proofs.SizeLaws.{allowed}
 use Rattle.model.proofs.BufferKept.{Grown}
@@ -28,7 +28,7 @@ use Rattle.model.proofs.Held.{Within, StreamWithin, StateKept}
 pub first_yes : (q : Question) (qs : List Question) → first_no (q ∷ qs) ≡ none → (q.yes ≡ true) × (first_no qs ≡ none)
 unfolding first_no
 first_yes q qs h =
-    by_test q.yes (λ y. (y, rw y at h)) (λ n. let s : some q.number ≡ none = rw n at h in clash (cc))
+    by_test q.yes (λ y. (y, rw y at h)) (λ n. let s : some q.number ≡ none = rw n at h in cc)
 
 -- ---- counters
 

@@ -4,7 +4,7 @@ use Rattle.std.proofs.Math.Option.{Option, none, some}
 use Rattle.model.specs.Sizes.{Sizes, sizes_allowed}
 use Rattle.model.specs.Framing.{A, B}
 use Rattle.model.specs.Clock.{DepthCounts}
-use Rattle.model.specs.Receiver.{Estimates, Settings, Setup, Call, datagram, play, reset, set, probe, depth, transmit_depth, State, Lent, Answer, refused, accepted, played, row, fresh}
+use Rattle.model.specs.Receiver.{Estimates, Settings, Setup, Call, datagram, play, reset, set, probe, depth, transmit_depth, State, Lent, Answer, refused, fresh}
 use Rattle.model.specs.Questions.{Opened, not_opened, opened, set_up}
 use Rattle.model.specs.Step.{step}
 use Rattle.model.proofs.Computes.{computes}
@@ -50,9 +50,7 @@ with_incoming n s =
 -- the refusal of a call, if it is refused
 number : Answer → Option ℕ
 number (refused n) = some n
-number accepted = none
-number (played p) = none
-number (row r) = none
+number _ = none
 
 asked : Lent → State → List Call → List (Option ℕ)
 asked lent s cs = map (λ c. number (step lent c s).answer) cs

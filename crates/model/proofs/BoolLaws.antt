@@ -1,17 +1,11 @@
 -- Tests that hold together, what follows whichever way a test goes, and what a choice keeps. Assumes nothing.
 use mathlib.Core.Path.{◌≡◌, refl}
-use Prim.Native.Nat.{ℕ}
-use native.Mathlib.Omega.{arith}
 use mathlib.Core.Bool.{Bool, true, false, ◌&&◌, ◌||◌, cond, beq, and-eq-true_iff}
 
 -- a test goes one way or the other, with the equation kept
 pub by_test {ℓ} : {P : Type ℓ} (b : Bool) → (b ≡ true → P) → (b ≡ false → P) → P
 by_test true yes-case no-case = yes-case refl
 by_test false yes-case no-case = no-case refl
-
--- two values that differ are equal: `clash (cc)`
-pub clash {ℓ} : {P : Type ℓ} → ◌≡◌ {A = ℕ} 0 1 → P
-clash e = absurd (omega arith)
 
 pub both_and : {a b : Bool} → a ≡ true → b ≡ true → (a && b) ≡ true
 both_and {a} {b} p q = (and-eq-true_iff a b).1 (p, q)
@@ -30,6 +24,11 @@ neither_first false b p = refl
 pub cond_keeps {ℓ κ} : {A : Type ℓ} (P : A → Type κ) (b : Bool) (x y : A) → (b ≡ true → P x) → (b ≡ false → P y) → P (cond b x y)
 cond_keeps P true x y yes' no' = yes' refl
 cond_keeps P false x y yes' no' = no' refl
+
+pub beq_equal : (a b : Bool) → beq a b ≡ true → a ≡ b
+beq_equal true true e = refl
+beq_equal false false e = refl
+beq_equal _ _ e = cc
 
 pub beq_same : {a b : Bool} → a ≡ b → beq a b ≡ true
 beq_same {a} {b} p = rw p (beq_self b)

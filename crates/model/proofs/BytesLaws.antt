@@ -5,10 +5,12 @@ use mathlib.Core.Bool.{Bool, true}
 use mathlib.Core.List.{List, [], ◌∷◌, ◌++◌, append_assoc}
 use native.Mathlib.Omega.{arith}
 use native.Mathlib.Nat.{pow-succ', one-le-pow, mul-add-div_right, mod-eq_of_lt, mul_assoc, mul-add-mod_self_right}
-use lib.ListN.{length, take}
+use lib.ListN.{length, take, drop, get_or}
 use lib.Seq.{take_all}
 use lib.Arith.{digits_lt, digits_div, mod-mul}
 use lib.Dec.{ltb}
+use mir.Val.{Fits}
+use mir.Syntax.{w8}
 use borrow.Author.Tests.{ltb-true, lt-ltb}
 use Rattle.model.specs.Bytes.{all, big_endian, big_endian_bytes}
 use Rattle.model.specs.Tape.{words_of, bytes_of}
@@ -20,6 +22,12 @@ is_byte b = ltb b 256
 
 abbrev pub is_word : ℕ → Bool
 is_word w = ltb w (2 ^ 32)
+
+-- what a slice of bytes holds are bytes
+pub slice_are_bytes : (xs : List ℕ) → ((i : ℕ) → Fits w8 (get_or xs i 0)) → all is_byte xs ≡ true
+unfolding all
+slice_are_bytes [] h = refl
+slice_are_bytes (x ∷ xs) h = all_cons is_byte x xs (lt-ltb x 256 (h 0).fits) (slice_are_bytes xs (λ i. h (suc i)))
 
 pub length_big_endian_bytes : (k n : ℕ) → length (big_endian_bytes k n) ≡ k
 unfolding big_endian_bytes
@@ -72,16 +80,13 @@ number_of_bytes k n h = number_of_low_bytes k n ∙ mod-eq_of_lt h
 
 -- ---- words of four bytes
 
-four_more : (q : ℕ) → 4 * suc q ≡ suc (suc (suc (suc (4 * q))))
+pub four_more : (q : ℕ) → 4 * suc q ≡ suc (suc (suc (suc (4 * q))))
 four_more q = omega arith
 
 pub length_words_of : (bytes : List ℕ) → length (words_of bytes) ≡ length bytes / 4
 unfolding words_of
-length_words_of [] = refl
-length_words_of (a ∷ []) = refl
-length_words_of (a ∷ b ∷ []) = refl
-length_words_of (a ∷ b ∷ c ∷ []) = refl
 length_words_of (a ∷ b ∷ c ∷ d ∷ rest) = rw (length_words_of rest) (omega arith)
+length_words_of _ = refl
 
 pub length_bytes_of : (ws : List ℕ) → length (bytes_of ws) ≡ 4 * length ws
 unfolding bytes_of big_endian_bytes
@@ -90,15 +95,12 @@ length_bytes_of (w ∷ ws) = rw (length_bytes_of ws) (omega arith)
 
 pub words_of_are_words : (bytes : List ℕ) → all is_byte bytes ≡ true → all is_word (words_of bytes) ≡ true
 unfolding words_of all
-words_of_are_words [] h = refl
-words_of_are_words (a ∷ []) h = refl
-words_of_are_words (a ∷ b ∷ []) h = refl
-words_of_are_words (a ∷ b ∷ c ∷ []) h = refl
 words_of_are_words (a ∷ b ∷ c ∷ d ∷ rest) h =
     let word : List ℕ = a ∷ b ∷ c ∷ d ∷ [] in
     all_cons is_word (big_endian word) (words_of rest)
     (lt-ltb (big_endian word) (2 ^ 32) (big_endian_below word (all_take is_byte 4 (a ∷ b ∷ c ∷ d ∷ rest) h)))
     (words_of_are_words rest (all_drop is_byte 4 (a ∷ b ∷ c ∷ d ∷ rest) h))
+words_of_are_words _ h = refl
 
 pub bytes_of_are_bytes : (ws : List ℕ) → all is_byte (bytes_of ws) ≡ true
 unfolding bytes_of all
@@ -110,14 +112,18 @@ unfolding bytes_of
 bytes_of_append [] ys = refl
 bytes_of_append (x ∷ xs) ys = rw (bytes_of_append xs ys, append_assoc)
 
-pub take_words_of : (q : ℕ) (bytes : List ℕ) → take q (words_of bytes) ≡ words_of (take (4 * q) bytes)
+-- words in front of a place and behind it are those of the bytes in front of it and behind it
+words_cut : (q : ℕ) (bytes : List ℕ) → (take q (words_of bytes) ≡ words_of (take (4 * q) bytes)) × (drop q (words_of bytes) ≡ words_of (drop (4 * q) bytes))
 unfolding words_of
-take_words_of zero bytes = refl
-take_words_of (suc q) [] = rw (four_more q)
-take_words_of (suc q) (a ∷ []) = rw (four_more q)
-take_words_of (suc q) (a ∷ b ∷ []) = rw (four_more q)
-take_words_of (suc q) (a ∷ b ∷ c ∷ []) = rw (four_more q)
-take_words_of (suc q) (a ∷ b ∷ c ∷ d ∷ rest) = rw (four_more q, take_words_of q rest)
+words_cut zero bytes = (refl, refl)
+words_cut (suc q) (a ∷ b ∷ c ∷ d ∷ rest) = let r = words_cut q rest in rw (four_more q, r.0) (refl, r.1)
+words_cut (suc q) _ = rw (four_more q) (refl, refl)
+
+pub take_words_of : (q : ℕ) (bytes : List ℕ) → take q (words_of bytes) ≡ words_of (take (4 * q) bytes)
+take_words_of q bytes = (words_cut q bytes).0
+
+pub drop_words_of : (q : ℕ) (bytes : List ℕ) → drop q (words_of bytes) ≡ words_of (drop (4 * q) bytes)
+drop_words_of q bytes = (words_cut q bytes).1
 
 pub take_bytes_of : (q : ℕ) (ws : List ℕ) → take (4 * q) (bytes_of ws) ≡ bytes_of (take q ws)
 unfolding bytes_of big_endian_bytes
@@ -136,16 +142,13 @@ words_of_bytes_of (w ∷ ws) h =
 
 pub bytes_of_words_of : (bytes : List ℕ) → all is_byte bytes ≡ true → bytes_of (words_of bytes) ≡ take (4 * length (words_of bytes)) bytes
 unfolding words_of bytes_of
-bytes_of_words_of [] h = refl
-bytes_of_words_of (a ∷ []) h = refl
-bytes_of_words_of (a ∷ b ∷ []) h = refl
-bytes_of_words_of (a ∷ b ∷ c ∷ []) h = refl
 bytes_of_words_of (a ∷ b ∷ c ∷ d ∷ rest) h =
     rw (
       four_more (length (words_of rest)),
       bytes_of_number (a ∷ b ∷ c ∷ d ∷ []) (all_take is_byte 4 (a ∷ b ∷ c ∷ d ∷ rest) h),
       bytes_of_words_of rest (all_drop is_byte 4 (a ∷ b ∷ c ∷ d ∷ rest) h),
     )
+bytes_of_words_of _ h = refl
 
 -- bytes that are whole words
 pub bytes_of_whole_words : (bytes : List ℕ) → all is_byte bytes ≡ true → length bytes % 4 ≡ 0 → bytes_of (words_of bytes) ≡ bytes

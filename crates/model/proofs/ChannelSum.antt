@@ -1,7 +1,7 @@
 -- The channel sum: packet × (inserted + concealed) = taken + dropped + queued + packet × waiting, and filled = short total + packet × concealed,
 -- over the plays since the last reset. Each call changes the two sides alike. Assumes nothing.
 use mathlib.Core.Path.{◌≡◌, refl}
-use mathlib.Core.Bool.{true, false, cond, ◌&&◌, false≢true, true≢false, and-false}
+use mathlib.Core.Bool.{true, false, cond, ◌&&◌, and-false}
 use mathlib.Core.Option.{Option, none, some}
 use mathlib.Core.List.{List, [], ◌∷◌}
 use Prim.Native.Nat.{ℕ, ◌+◌, ◌*◌, ◌≤◌}
@@ -14,7 +14,7 @@ use Rattle.model.specs.Framing.{header_fields, Side, A, B, Stream, audio, waterf
 use Rattle.model.specs.JitterBuffer as Jitter
 use Rattle.model.specs.JitterBuffer.{Buffer, Played, buffered}
 use Rattle.model.specs.Clock.{Clock}
-use Rattle.model.specs.Receiver.{Setup, Settings, Call, datagram, play, reset, set, probe, one_way, depth, transmit_depth, State, Channel, Lent, Answer, refused, channel_of, is_accepted, fresh_channel, fresh}
+use Rattle.model.specs.Receiver.{Setup, Settings, Call, datagram, play, reset, set, State, Channel, Lent, Answer, refused, channel_of, is_accepted, fresh_channel, fresh}
 use Rattle.model.specs.Questions.{most_added, first_no, own_questions, questions, stream_allowed}
 use Rattle.model.specs.Step.{ChannelResult, with_buffer, play_channel, reset_channel, set_channel, audio_into, waterfall_into, on_side, on_clock, count_header, dispatch, take_datagram, changes, one_call_more, accept, decide, step, run}
 use Rattle.model.specs.Lines.{same_side, of_play, tally, tally_from}
@@ -58,17 +58,17 @@ side_tallied : (side u : Side) (f : Channel → ChannelResult) (s : State) (t d 
     → TalliedOn side (on_side u f s).after (t + taken_of (on_side u f s).answer) (d + dropped_of (on_side u f s).answer) (h + short_of (on_side u f s).answer)
 unfolding on_side
 side_tallied A A f s t d h e a k = moves_tallied s.sizes most_added _ _ t d h _ _ _ a.moves k
-side_tallied A B f s t d h e a k = absurd (false≢true e)
-side_tallied B A f s t d h e a k = absurd (false≢true e)
+side_tallied A B f s t d h e a k = cc
+side_tallied B A f s t d h e a k = cc
 side_tallied B B f s t d h e a k = moves_tallied s.sizes most_added _ _ t d h _ _ _ a.moves k
 
 side_untouched : (side u : Side) (f : Channel → ChannelResult) (s : State) (t d h : ℕ) → same_side side u ≡ false → TalliedOn side s t d h
     → TalliedOn side (on_side u f s).after t d h
 unfolding on_side
-side_untouched A A f s t d h e k = absurd (true≢false e)
+side_untouched A A f s t d h e k = cc
 side_untouched A B f s t d h e k = k
 side_untouched B A f s t d h e k = k
-side_untouched B B f s t d h e k = absurd (true≢false e)
+side_untouched B B f s t d h e k = cc
 
 -- a call that plays nothing adds nothing
 side_no_play : (side u : Side) (f : Channel → ChannelResult) (s : State) (t d h : ℕ)
@@ -178,10 +178,7 @@ changes_tallied side (play u n) s t d h b q k m =
 changes_tallied side (reset u) s t d h b q k m = reset_tallied side u s t d h m
 changes_tallied side (set u x) s t d h b q k m =
     side_no_play side u (set_channel x) s t d h (set_plays_none u x s) (set_acts s.sizes x (channel_of u s) (kept_channel u s k)) m
-changes_tallied side (probe t1 t2 t3 t4) s t d h b q k m = clock_tallied side _ s t d h m
-changes_tallied side (one_way receive send) s t d h b q k m = clock_tallied side _ s t d h m
-changes_tallied side (depth samples counts) s t d h b q k m = clock_tallied side _ s t d h m
-changes_tallied side (transmit_depth samples) s t d h b q k m = clock_tallied side _ s t d h m
+changes_tallied side _ s t d h b q k m = clock_tallied side _ s t d h m
 
 -- counting the call moves nothing
 counted_tallied : (side : Side) (s : State) (t d h : ℕ) → TalliedOn side s t d h → TalliedOn side (one_call_more s) t d h
@@ -197,15 +194,10 @@ accept_tallied side c s t d h b q k m = counted_tallied side (changes c s).after
 -- a refused call adds nothing
 refused_tally : (side : Side) (g : Played Float → ℕ) (c : Call) (n sum : ℕ) → tally side g c (refused n) sum ≡ sum
 unfolding tally of_play is_accepted
-refused_tally side g (datagram bytes) n sum = refl
 refused_tally side g (play u k) n sum =
     cond_keeps (λ (m : ℕ). m ≡ sum) (same_side side u) (sum + 0) sum (λ e. omega arith) (λ e. refl)
 refused_tally side g (reset u) n sum = rw (and-false (same_side side u))
-refused_tally side g (set u x) n sum = refl
-refused_tally side g (probe t1 t2 t3 t4) n sum = refl
-refused_tally side g (one_way receive send) n sum = refl
-refused_tally side g (depth samples counts) n sum = refl
-refused_tally side g (transmit_depth samples) n sum = refl
+refused_tally side g _ n sum = refl
 
 decided_tallied : (side : Side) (lent : Lent) (c : Call) (s : State) (o : Option ℕ) (t d h : ℕ) → first_no (questions lent s c) ≡ o → CallBytes c → StateKept s
     → TalliedOn side s t d h → TalliedAfter side (decide o c s).after c (decide o c s).answer t d h

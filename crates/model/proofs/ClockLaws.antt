@@ -2,15 +2,16 @@
 use Prim.Native.Nat.{ℕ, zero, suc, ◌+◌, ◌/◌, ◌≤◌, min}
 use native.Mathlib.Omega.{arith}
 use mathlib.Core.Path.{◌≡◌, refl}
-use mathlib.Core.Bool.{Bool, true, false, cond, false≢true, and-eq-true_iff}
+use mathlib.Core.Bool.{Bool, true, false, cond, and-eq-true_iff}
 use mathlib.Core.Option.{Option, none, some}
 use lib.IntN.{ℤ, pos, negsuc}
 use lib.Dec.{leb}
-use borrow.Author.Tests.{leb-true, le-leb}
+use borrow.Author.Tests.{le-leb}
 use Rattle.model.specs.Sizes.{between}
 use Rattle.model.specs.Clock.{Timing, DepthCounts, Clock, step_toward, least_after, passes_gate, timing_after, probed, record_probe, one_way_in_range, one_way_of, one_way_after, one_way_updated, record_one_way, record_depth, record_transmit}
 use Rattle.model.specs.Questions.{clock_bound, offset_allowed, timing_held, one_way_held, clock_held, probe_allowed}
 use Rattle.model.proofs.BoolLaws.{both_and, cond_keeps}
+use Rattle.model.proofs.SizeLaws.{between_facts}
 use Rattle.model.proofs.StepLaws.{step_within}
 
 -- ---- timing
@@ -26,11 +27,6 @@ gated_offset_allowed : (b : Bool) (n : ℕ) (old new : ℤ) → offset_allowed o
 gated_offset_allowed true n old new h k = offset_step_allowed n old new h k
 gated_offset_allowed false n old new h k = h
 
-between_both : (low high n : ℕ) → between low high n ≡ true → (low ≤ n) × (n ≤ high)
-between_both low high n h =
-    let tests = (and-eq-true_iff (leb low n) (leb n high)).0 h in
-    (leb-true low n tests.0, leb-true n high tests.1)
-
 both_between : (low high n : ℕ) → low ≤ n → n ≤ high → between low high n ≡ true
 both_between low high n h k = both_and (le-leb low n h) (le-leb n high k)
 
@@ -38,8 +34,8 @@ least_between : (high round_trip least : ℕ) → between 1 high round_trip ≡ 
     → between 1 high (least_after round_trip least) ≡ true
 unfolding least_after
 least_between high round_trip least h k =
-    let new = between_both 1 high round_trip h in
-    let old = between_both 1 high least k in
+    let new = between_facts 1 high round_trip h in
+    let old = between_facts 1 high least k in
     both_between 1 high (min round_trip (least + least / 64)) (omega arith) (omega arith)
 
 timing_after_held : (offset : ℤ) (round_trip : ℕ) (t : Option Timing)
@@ -58,7 +54,7 @@ one_way_held_after : (old : Option Timing) (new : Timing) (one_way : Option ℤ)
     → one_way_held old one_way ≡ true → one_way_held (some new) one_way ≡ true
 unfolding one_way_held
 one_way_held_after old new none h = refl
-one_way_held_after none new (some n) h = absurd (false≢true h)
+one_way_held_after none new (some n) h = cc
 one_way_held_after (some t) new (some n) h = h
 
 -- ---- one-way

@@ -58,7 +58,7 @@ module _ {X : Type 0} (filler : X) (z : Sizes) where
       go stopped e again = e
 
   -- steps given after the end change nothing
-  stopped_stays : (k : ℕ) (b : Buffer X) → step_due z b ≡ stopped → fill_steps filler z k b ≡ b
+  pub stopped_stays : (k : ℕ) (b : Buffer X) → step_due z b ≡ stopped → fill_steps filler z k b ≡ b
   unfolding fill_steps
   stopped_stays zero b e = refl
   stopped_stays (suc k) b e = rw e

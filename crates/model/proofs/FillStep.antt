@@ -12,7 +12,7 @@ use borrow.Author.Tests.{ltb-true, leb-false}
 use Rattle.model.specs.Sizes.{Sizes}
 use Rattle.model.specs.Framing.{next_sequence}
 use Rattle.model.specs.JitterBuffer.{Packet, Buffer, Step, moved, concealed, stopped, buffered, is_waiting, samples_at, without, earliest, with_next, step_due, resynced, after_step, count_concealed, count_resync}
-use Rattle.model.proofs.BoolLaws.{by_test, clash}
+use Rattle.model.proofs.BoolLaws.{by_test}
 use Rattle.model.specs.WholeList.{All}
 use Rattle.model.proofs.Waiting.{RisingFrom, rising_weaken, rising_without, rising_past, length_without, all_without, length_samples}
 
@@ -79,21 +79,21 @@ module _ {X : Type 0} where
 
   next_moved : (n : Option ℕ) (ps : List (Packet X)) (s : ℕ) → with_next n ps ≡ moved s → (n ≡ some s) × (is_waiting s ps ≡ true)
   unfolding with_next
-  next_moved none ps s e = clash (cc)
-  next_moved (some n) [] s e = clash (cc)
+  next_moved none ps s e = cc
+  next_moved (some n) [] s e = cc
   next_moved (some n) (p ∷ ps) s e =
       by_test (is_waiting n (p ∷ ps))
       (λ w. let m : moved n ≡ moved s = rw w at e in let same : n ≡ s = cc in (ap some same, rw same at w))
-      (λ w. let m : concealed n ≡ moved s = rw w at e in clash (cc))
+      (λ w. let m : concealed n ≡ moved s = rw w at e in cc)
 
   next_concealed : (n : Option ℕ) (ps : List (Packet X)) (s : ℕ) → with_next n ps ≡ concealed s
       → (n ≡ some s) × (is_waiting s ps ≡ false) × (0 < length ps)
   unfolding with_next
-  next_concealed none ps s e = clash (cc)
-  next_concealed (some n) [] s e = clash (cc)
+  next_concealed none ps s e = cc
+  next_concealed (some n) [] s e = cc
   next_concealed (some n) (p ∷ ps) s e =
       by_test (is_waiting n (p ∷ ps))
-      (λ w. let m : moved n ≡ concealed s = rw w at e in clash (cc))
+      (λ w. let m : moved n ≡ concealed s = rw w at e in cc)
       (λ w. let m : concealed n ≡ concealed s = rw w at e in let same : n ≡ s = cc in (ap some same, rw same at w, omega arith))
 
   -- a step that does not stop finds the queue below target
@@ -105,7 +105,7 @@ module _ {X : Type 0} where
       (λ t. let m : with_next b.next b.waiting ≡ moved s = rw t at e in
       let n = next_moved b.next b.waiting s m in
       (ltb-true _ _ t, n.0, n.1))
-      (λ t. let m : stopped ≡ moved s = rw t at e in clash (cc))
+      (λ t. let m : stopped ≡ moved s = rw t at e in cc)
 
   pub due_concealed : (z : Sizes) (b : Buffer X) (s : ℕ) → step_due z b ≡ concealed s
       → (length b.queue < z.target) × (b.next ≡ some s) × (is_waiting s b.waiting ≡ false) × (0 < length b.waiting)
@@ -115,7 +115,7 @@ module _ {X : Type 0} where
       (λ t. let m : with_next b.next b.waiting ≡ concealed s = rw t at e in
       let n = next_concealed b.next b.waiting s m in
       (ltb-true _ _ t, n.0, n.1, n.2))
-      (λ t. let m : stopped ≡ concealed s = rw t at e in clash (cc))
+      (λ t. let m : stopped ≡ concealed s = rw t at e in cc)
 
   -- ---- what a step keeps
 

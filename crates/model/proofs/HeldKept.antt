@@ -1,7 +1,7 @@
 -- A state that question 3 lets pass is one that every call keeps, where its lists have the lengths and its sequences the 32 bits that memory gives
 -- them; and what is held at a limit is held at a larger one. So of a state that was handed in, too, an accepted call leaves a held one. Assumes nothing.
-use mathlib.Core.Path.{◌≡◌, refl, sym}
-use mathlib.Core.Bool.{Bool, true, false, beq, and-eq-true_iff}
+use mathlib.Core.Path.{◌≡◌, refl}
+use mathlib.Core.Bool.{true, and-eq-true_iff}
 use mathlib.Core.Option.{Option, none, some}
 use mathlib.Core.List.{List, [], ◌∷◌}
 use Prim.Native.Nat.{ℕ, suc, ◌+◌, ◌*◌, ◌^◌, ◌≤◌, ◌<◌}
@@ -19,7 +19,7 @@ use Rattle.model.specs.Receiver.{Call, Channel, State}
 use Rattle.model.specs.Questions.{most_added, first_no, own_questions, sequences, strictly_rising, start_held, counters_held, buffer_held, row_held, channel_held, clock_held, stream_held, held}
 use Rattle.model.specs.Step.{accept}
 use Rattle.model.specs.WholeList.{All, CallBytes}
-use Rattle.model.proofs.BoolLaws.{both_and}
+use Rattle.model.proofs.BoolLaws.{both_and, beq_equal}
 use Rattle.model.proofs.Waiting.{RisingFrom}
 use Rattle.model.proofs.FillStep.{PacketKept, NextKept, lowest}
 use Rattle.model.proofs.BufferKept.{Idle, Kept}
@@ -141,12 +141,6 @@ buffer_kept z limit b shaped h =
     }
 
 -- ---- a channel
-
-beq_equal : (a b : Bool) → beq a b ≡ true → a ≡ b
-beq_equal true true e = refl
-beq_equal true false e = sym e
-beq_equal false true e = e
-beq_equal false false e = refl
 
 pub row_kept : (z : Sizes) (r : Option Row) → RowShaped z r → row_held z r ≡ true → RowKept z r
 unfolding row_held

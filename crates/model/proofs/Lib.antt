@@ -1,10 +1,13 @@
 pub mod BoolLaws
 pub mod Constants
 pub mod ListLaws
+pub mod PlacedLaws
+pub mod Powers
 pub mod BytesLaws
 pub mod ByteParts
 pub mod TimePackets
 pub mod ProbeWords
+pub mod CastLaws
 pub mod FieldRange
 pub mod SizeLaws
 pub mod Waiting
@@ -37,6 +40,7 @@ pub mod TapeBadCalls
 pub mod TapeFirstBad
 pub mod Decimal
 pub mod TapeWalk
+pub mod PrintedSteps
 pub mod ReplaySteps
 pub mod SummarySteps
 -- facts of the definitions that are computed

@@ -1,6 +1,6 @@
 -- Lines are independent: a call changes its own line only, and what it answers and leaves there comes from that line alone. Assumes nothing.
 use mathlib.Core.Path.{◌≡◌, refl, sym, ◌∙◌, ap}
-use mathlib.Core.Bool.{true, false, false≢true, true≢false}
+use mathlib.Core.Bool.{true, false}
 use mathlib.Core.Option.{Option, none, some}
 use mathlib.Core.List.{List, [], ◌∷◌}
 use Prim.Native.Nat.{ℕ, suc}
@@ -10,7 +10,7 @@ use Rattle.model.specs.Sizes.{Sizes}
 use Rattle.model.specs.Framing.{header_fields, header_length, Side, A, B, Stream, audio, waterfall, other_stream, stream_in}
 use Rattle.model.specs.Samples.{audio_payload}
 use Rattle.model.specs.Clock.{Clock}
-use Rattle.model.specs.Receiver.{Call, datagram, play, reset, set, probe, one_way, depth, transmit_depth, State, Channel, Lent, StepResult}
+use Rattle.model.specs.Receiver.{Call, datagram, play, reset, set, State, Channel, Lent, StepResult}
 use Rattle.model.specs.Questions.{first_no, own_questions}
 use Rattle.model.specs.Step.{ChannelResult, play_channel, reset_channel, set_channel, audio_into, waterfall_into, on_side, on_clock, counts_after, count_header, dispatch, take_datagram, changes, one_call_more, accept, decide, step, Run, run}
 use Rattle.model.specs.Lines.{Line, channel, clock, stream_line, line_of, same_line, is_of, only_calls, only_events, line_state}
@@ -26,12 +26,9 @@ pub record Agree (l : Line) (r q : StepResult) : Type 0 where
 
 same_line_law : (l m : Line) → same_line l m ≡ true → l ≡ m
 same_line_law (channel A) (channel A) h = refl
-same_line_law (channel A) (channel B) h = absurd (false≢true h)
-same_line_law (channel B) (channel A) h = absurd (false≢true h)
 same_line_law (channel B) (channel B) h = refl
-same_line_law (channel s) clock h = absurd (false≢true h)
-same_line_law clock (channel t) h = absurd (false≢true h)
 same_line_law clock clock h = refl
+same_line_law _ _ h = cc
 
 -- ---- the parts of a step
 
@@ -57,24 +54,22 @@ side_same F l side s t h z e =
 side_other : (l : Line) (side : Side) (f : Channel → ChannelResult) (s : State) → same_line l (channel side) ≡ false
     → line_state l (on_side side f s).after ≡ line_state l s
 unfolding on_side line_state
-side_other (channel A) A f s h = absurd (true≢false h)
-side_other (channel A) B f s h = refl
-side_other (channel B) A f s h = refl
-side_other (channel B) B f s h = absurd (true≢false h)
-side_other clock A f s h = refl
-side_other clock B f s h = refl
+side_other (channel A) A f s h = cc
+side_other (channel B) B f s h = cc
+side_other _ A f s h = refl
+side_other _ B f s h = refl
 
 clock_same : (l : Line) (f : Clock → Clock) (s t : State) → same_line l clock ≡ true → line_state l s ≡ line_state l t
     → Agree l (on_clock f s) (on_clock f t)
 unfolding on_clock line_state
-clock_same (channel side) f s t h e = absurd (false≢true h)
+clock_same (channel side) f s t h e = cc
 clock_same clock f s t h e = let c : s.clock ≡ t.clock = cc in record { answer = refl; after = cc }
 
 clock_other : (l : Line) (f : Clock → Clock) (s : State) → same_line l clock ≡ false → line_state l (on_clock f s).after ≡ line_state l s
 unfolding on_clock line_state
+clock_other clock f s h = cc
 clock_other (channel A) f s h = refl
 clock_other (channel B) f s h = refl
-clock_other clock f s h = absurd (true≢false h)
 
 -- ---- datagrams
 
@@ -91,13 +86,9 @@ header_same clock sequence stream s t e = e
 header_other : (l : Line) (sequence : ℕ) (stream : Stream) (s : State) → is_of l (stream_line stream) ≡ false
     → line_state l (count_header sequence stream s) ≡ line_state l s
 unfolding count_header line_state counts_after stream_line
-header_other (channel A) sequence (audio A) s h = absurd (true≢false h)
-header_other (channel A) sequence (audio B) s h = refl
-header_other (channel A) sequence (waterfall A) s h = absurd (true≢false h)
-header_other (channel A) sequence (waterfall B) s h = refl
-header_other (channel A) sequence other_stream s h = refl
-header_other (channel B) sequence stream s h = refl
-header_other clock sequence stream s h = refl
+header_other (channel A) sequence (audio A) s h = cc
+header_other (channel A) sequence (waterfall A) s h = cc
+header_other _ sequence _ s h = refl
 
 dispatch_other : (l : Line) (bytes : List ℕ) (stream : Stream) (s : State) → is_of l (stream_line stream) ≡ false
     → line_state l (dispatch (header_fields bytes) bytes stream s).after ≡ line_state l s
@@ -113,7 +104,7 @@ unfolding dispatch stream_line
 dispatch_same l bytes (audio side) s t z h e =
     side_same (λ y. audio_into y (header_fields bytes).sequence (audio_payload (header_fields bytes).version bytes)) l side s t h z e
 dispatch_same l bytes (waterfall side) s t z h e = side_same (λ y. waterfall_into y (drop header_length bytes)) l side s t h z e
-dispatch_same l bytes other_stream s t z h e = absurd (false≢true h)
+dispatch_same l bytes other_stream s t z h e = cc
 
 -- ---- accepted calls
 
@@ -136,10 +127,7 @@ changes_other l (datagram bytes) s q h =
 changes_other l (play side n) s q h = side_other l side _ s h
 changes_other l (reset side) s q h = side_other l side _ s h
 changes_other l (set side x) s q h = side_other l side _ s h
-changes_other l (probe t1 t2 t3 t4) s q h = clock_other l _ s h
-changes_other l (one_way receive send) s q h = clock_other l _ s h
-changes_other l (depth samples counts) s q h = clock_other l _ s h
-changes_other l (transmit_depth samples) s q h = clock_other l _ s h
+changes_other l _ s q h = clock_other l _ s h
 
 -- what it answers and leaves comes from its line
 changes_same : (l : Line) (c : Call) (s t : State) → first_no (own_questions s.sizes c) ≡ none → is_of l (line_of c) ≡ true → s.sizes ≡ t.sizes
@@ -153,17 +141,13 @@ changes_same l (datagram bytes) s t q h z e =
 changes_same l (play side n) s t q h z e = side_same (λ y. play_channel y n) l side s t h z e
 changes_same l (reset side) s t q h z e = side_same (λ y. reset_channel) l side s t h z e
 changes_same l (set side x) s t q h z e = side_same (λ y. set_channel x) l side s t h z e
-changes_same l (probe t1 t2 t3 t4) s t q h z e = clock_same l _ s t h e
-changes_same l (one_way receive send) s t q h z e = clock_same l _ s t h e
-changes_same l (depth samples counts) s t q h z e = clock_same l _ s t h e
-changes_same l (transmit_depth samples) s t q h z e = clock_same l _ s t h e
+changes_same l _ s t q h z e = clock_same l _ s t h e
 
 -- the number of accepted calls is no line's
 counted_line : (l : Line) (s : State) → line_state l (one_call_more s) ≡ line_state l s
 unfolding one_call_more line_state
 counted_line (channel A) s = refl
-counted_line (channel B) s = refl
-counted_line clock s = refl
+counted_line _ s = refl
 
 accept_other : (l : Line) (c : Call) (s : State) → first_no (own_questions s.sizes c) ≡ none → is_of l (line_of c) ≡ false
     → line_state l (accept c s).after ≡ line_state l s

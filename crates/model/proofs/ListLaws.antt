@@ -1,14 +1,15 @@
 -- Laws of any list: a test of every element, a list by its elements, lists that begin alike, and lengths of what is pasted, zipped and counted. Assumes nothing.
 use Prim.Native.Nat.{ℕ, zero, suc, ◌+◌, ◌≤◌}
 use mathlib.Core.Path.{◌≡◌, refl, sym, ap, ◌∙◌}
-use mathlib.Core.Bool.{Bool, true}
+use mathlib.Core.Bool.{Bool, true, ◌&&◌}
 use mathlib.Core.List.{List, [], ◌∷◌, ◌++◌, zip_with, append_cancel_left}
 use native.Mathlib.Omega.{arith}
 use lib.ListN.{length, take, drop, get_or, replicate, drop_of_length-le, length-append, length-take, length-drop}
 use lib.Seq.{drop-cons, take-take, take-add, take-append-add}
+use Rattle.std.specs.List.{list_all}
 use Rattle.model.specs.Bytes.{placed, all}
 use Rattle.model.specs.Picture.{count_from}
-use Rattle.model.proofs.BoolLaws.{clash, both_and, first_of_both, second_of_both}
+use Rattle.model.proofs.BoolLaws.{both_and, first_of_both, second_of_both}
 
 -- ---- every element
 
@@ -50,6 +51,12 @@ module _ {ℓ} {A : Type ℓ} (f : A → Bool) where
   all_get_d (x ∷ xs) zero d p e = all_head x xs e
   all_get_d (x ∷ xs) (suc i) d p e = all_get_d xs i d p (all_tail x xs e)
 
+-- the library's test of every element is the model's
+pub all_is_list_all : {A : Type 0} (f : A → Bool) (xs : List A) → list_all f xs ≡ all f xs
+unfolding all
+all_is_list_all f [] = refl
+all_is_list_all f (x ∷ xs) = ap (λ (b : Bool). f x && b) (all_is_list_all f xs)
+
 -- ---- a list by its elements
 
 module _ {ℓ} {A : Type ℓ} where
@@ -81,7 +88,7 @@ module _ {ℓ} {A : Type ℓ} where
 
   -- a list that begins as w ∷ xs does
   pub alike_cons : (w : A) (xs ys : List A) (n : ℕ) → take (suc n) ys ≡ take (suc n) (w ∷ xs) → (rest : List A) × (ys ≡ w ∷ rest) × (take n rest ≡ take n xs)
-  alike_cons w xs [] n e = clash (cc)
+  alike_cons w xs [] n e = cc
   alike_cons w xs (y ∷ ys) n e = (ys, cc, cc)
 
   pub alike_long : (n : ℕ) (xs ys : List A) → n ≤ length xs → take n ys ≡ take n xs → n ≤ length ys

@@ -8,10 +8,9 @@ use native.Mathlib.Omega.{arith}
 use borrow.Author.Tests.{lt-ltb}
 use Rattle.model.specs.Sizes.{sizes_allowed}
 use Rattle.model.specs.Framing.{header_fields, Side, A, B, Stream, audio, waterfall, other_stream, stream_in}
-use Rattle.model.specs.Receiver.{Setup, Call, datagram, play, reset, set, probe, one_way, depth, transmit_depth, State, Channel, Lent, fresh, fresh_channel}
+use Rattle.model.specs.Receiver.{Setup, Call, datagram, play, reset, set, State, Channel, Lent, fresh, fresh_channel}
 use Rattle.model.specs.Questions.{opened, opened_unless, set_up, setup_questions, first_no, most_calls, areas_long, held, clock_held, timing_held, one_way_held, own_questions, questions}
 use Rattle.model.specs.Step.{ChannelResult, on_side, on_clock, count_header, dispatch, take_datagram, changes, one_call_more, accept, decide, step, run}
-use Rattle.model.proofs.BoolLaws.{clash}
 use Rattle.model.specs.WholeList.{All, CallBytes}
 use Rattle.model.proofs.SizeLaws.{allowed}
 use Rattle.model.proofs.ChannelKept.{fresh_channel_kept}
@@ -28,7 +27,7 @@ pub record SetUp (lent : Lent) (setup : Setup) (s : State) : Type 0 where
 
 opened_facts : (lent : Lent) (setup : Setup) (s : State) (o : Option ℕ) → first_no (setup_questions lent setup) ≡ o → opened_unless o setup ≡ opened s → SetUp lent setup s
 unfolding opened_unless setup_questions
-opened_facts lent setup s (some n) e h = clash (cc)
+opened_facts lent setup s (some n) e h = cc
 opened_facts lent setup s none e h =
     let one = first_yes _ _ e in
     let two = first_yes _ _ one.1 in
@@ -134,10 +133,7 @@ changes_uncounted (datagram bytes) s = datagram_uncounted bytes s
 changes_uncounted (play side n) s = side_uncounted side _ s
 changes_uncounted (reset side) s = side_uncounted side _ s
 changes_uncounted (set side x) s = side_uncounted side _ s
-changes_uncounted (probe t1 t2 t3 t4) s = record { sizes = refl; calls = refl }
-changes_uncounted (one_way receive send) s = record { sizes = refl; calls = refl }
-changes_uncounted (depth samples counts) s = record { sizes = refl; calls = refl }
-changes_uncounted (transmit_depth samples) s = record { sizes = refl; calls = refl }
+changes_uncounted _ s = record { sizes = refl; calls = refl }
 
 pub record OneMore (s t : State) : Type 0 where
   pub sizes : t.sizes ≡ s.sizes

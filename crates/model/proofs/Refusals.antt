@@ -11,11 +11,11 @@ use lib.Ieee.{Float}
 use Rattle.model.specs.Sizes.{Sizes}
 use Rattle.model.specs.Framing.{header_fields, Side, A, B, Stream, audio, waterfall, other_stream, stream_in}
 use Rattle.model.specs.Row.{Row}
-use Rattle.model.specs.Receiver.{Setup, Call, datagram, play, reset, set, probe, one_way, depth, transmit_depth, State, Channel, Lent, refused, is_accepted}
+use Rattle.model.specs.Receiver.{Setup, Call, datagram, play, reset, set, one_way, State, Channel, Lent, refused, is_accepted}
 use Rattle.model.specs.Questions.{Question, opened, not_opened, opened_unless, set_up, setup_questions, first_no, most_calls, own_questions, questions}
 use Rattle.model.specs.Step.{ChannelResult, play_channel, reset_channel, set_channel, audio_into, chunk_result, waterfall_into, on_side, on_clock, dispatch, take_datagram, changes, accept, decide, step, Event, run}
 use Rattle.model.specs.WholeList.{All, CallBytes}
-use Rattle.model.proofs.BoolLaws.{by_test, clash}
+use Rattle.model.proofs.BoolLaws.{by_test}
 use Rattle.model.proofs.Reachable.{Ready, ready_step, Room, room_ready, room_step, set_up_room}
 
 -- ---- the first "no"
@@ -44,7 +44,7 @@ another_yes q qs n y f =
 
 pub first_no_is_first : (qs : List Question) (n : ℕ) → first_no qs ≡ some n → FirstNo qs n
 unfolding first_no
-first_no_is_first [] n h = clash (cc)
+first_no_is_first [] n h = cc
 first_no_is_first (q ∷ qs) n h =
     by_test q.yes
     (λ y. another_yes q qs n y (first_no_is_first qs n (rw y at h)))
@@ -75,10 +75,7 @@ accept_accepted (datagram bytes) s = dispatch_accepted bytes (stream_in bytes) _
 accept_accepted (play side n) s = side_accepted side _ s (λ c. refl)
 accept_accepted (reset side) s = side_accepted side _ s (λ c. refl)
 accept_accepted (set side x) s = side_accepted side _ s (λ c. refl)
-accept_accepted (probe t1 t2 t3 t4) s = refl
-accept_accepted (one_way receive send) s = refl
-accept_accepted (depth samples counts) s = refl
-accept_accepted (transmit_depth samples) s = refl
+accept_accepted _ s = refl
 
 -- ---- refusals
 
@@ -92,7 +89,7 @@ unfolding decide is_accepted
 decided_refused (some k) c s n h = (cc, refl)
 decided_refused none c s n h =
     let y : is_accepted (refused n) ≡ true = rw h at (accept_accepted c s) in
-    clash (cc)
+    cc
 
 -- each refusal is the first fitting one, and leaves the state as it was
 pub refusal_is_first : (lent : Lent) (c : Call) (s : State) (n : ℕ) → (step lent c s).answer ≡ refused n → Refusal lent c s n
@@ -110,7 +107,7 @@ no_refusal_accepts lent c s h = rw h
 not_opened_law : (o : Option ℕ) (setup : Setup) (n : ℕ) → opened_unless o setup ≡ not_opened n → o ≡ some n
 unfolding opened_unless
 not_opened_law (some k) setup n h = cc
-not_opened_law none setup n h = clash (cc)
+not_opened_law none setup n h = cc
 
 pub setup_refusal_is_first : (lent : Lent) (setup : Setup) (n : ℕ) → set_up lent setup ≡ not_opened n → FirstNo (setup_questions lent setup) n
 unfolding set_up
@@ -121,7 +118,7 @@ setup_refusal_is_first lent setup n h =
 
 number_from : (k : ℕ) (qs : List Question) (n : ℕ) → All (λ q. k ≤ q.number) qs → first_no qs ≡ some n → k ≤ n
 unfolding first_no
-number_from k [] n a h = clash (cc)
+number_from k [] n a h = cc
 number_from k (q ∷ qs) n a h =
     by_test q.yes
     (λ y. number_from k qs n a.1 (rw y at h))
@@ -132,13 +129,9 @@ number_from k (q ∷ qs) n a h =
 own_numbers : (z : Sizes) (c : Call) → All (λ q. 5 ≤ q.number) (own_questions z c)
 unfolding own_questions
 own_numbers z (datagram bytes) = (omega arith, (omega arith, (omega arith, tt)))
-own_numbers z (play side n) = (omega arith, tt)
 own_numbers z (reset side) = tt
-own_numbers z (set side x) = (omega arith, tt)
-own_numbers z (probe t1 t2 t3 t4) = (omega arith, tt)
 own_numbers z (one_way receive send) = tt
-own_numbers z (depth samples counts) = (omega arith, tt)
-own_numbers z (transmit_depth samples) = (omega arith, tt)
+own_numbers z _ = (omega arith, tt)
 
 -- a refusal comes from the call's own questions
 abbrev pub RefusedByOwn : Event → Type 0

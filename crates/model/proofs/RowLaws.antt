@@ -86,7 +86,7 @@ row_for_chunk z c (some r) f h =
     (λ same. record { kept = h; total_is = eqb-true _ _ ((and-eq-true_iff (eqb r.number c.number) _).0 same).1 })
     (λ other. record { kept = open_row_kept z c f; total_is = refl })
 
-finite_prefix_length : (xs : List Float) → length (finite_prefix xs) ≤ length xs
+pub finite_prefix_length : (xs : List Float) → length (finite_prefix xs) ≤ length xs
 unfolding finite_prefix
 finite_prefix_length [] = omega arith
 finite_prefix_length (x ∷ xs) =

@@ -10,9 +10,8 @@ use lib.Seq.{drop-append-add, take-length, take_at, length-take-le}
 use lib.Dec.{eqb, eqb-suc-zero}
 use Rattle.model.specs.Bytes.{all, big_endian_bytes}
 use Rattle.model.specs.Receiver.{Call}
-use Rattle.model.specs.Tape.{Head, datagram_head, play_head, reset_head, set_head, probe_head, one_way_head, depth_head, transmit_head, call_word, end_word, word_in, bytes_of, words_for, body_length, call_words, call_of, padded_with_zeros, call_fits, found_bad, found_word, find}
+use Rattle.model.specs.Tape.{Head, datagram_head, call_word, end_word, word_in, bytes_of, words_for, body_length, call_words, call_of, padded_with_zeros, call_fits, found_bad, found_word, find}
 use Rattle.model.proofs.ListLaws.{all_tail, all_append, all_take, all_drop, all_replicate, alike_cons, alike_long}
-use Rattle.model.proofs.BoolLaws.{clash}
 use Rattle.model.proofs.BytesLaws.{is_word, bytes_of_append, length_bytes_of}
 use Rattle.model.proofs.TapeWord.{word_read}
 use Rattle.model.proofs.TapeBody.{call_of_fits}
@@ -37,13 +36,7 @@ zeros_behind_begun n m begun e l =
 begun_is_padded : (h : Head) (m : ℕ) (begun : List ℕ) → length begun + m ≡ body_length h → 0 < m → padded_with_zeros h (begun ++ replicate m 0) ≡ true
 unfolding body_length padded_with_zeros
 begun_is_padded (datagram_head n) m begun e l = zeros_behind_begun n m begun e l
-begun_is_padded (play_head side n) m begun e l = refl
-begun_is_padded (reset_head side) m begun e l = refl
-begun_is_padded (set_head side adaptive) m begun e l = refl
-begun_is_padded probe_head m begun e l = refl
-begun_is_padded one_way_head m begun e l = refl
-begun_is_padded depth_head m begun e l = refl
-begun_is_padded transmit_head m begun e l = refl
+begun_is_padded _ m begun e l = refl
 
 -- a call whose words begin with w and then with those of begun
 pub record Begun (w : ℕ) (begun : List ℕ) : Type 0 where
@@ -158,10 +151,10 @@ bad_found part (w ∷ ws) n are e = go (seen part w ws)
 
     go : Seen part w ws → BadFound (w ∷ ws) n
     go (no_call f) = rw (here 0 (f part ws)) at (bad_no_call w ws f)
-    go (the_end _ _ _ q) = clash (cc)
+    go (the_end _ _ _ q) = cc
     go (behind_end p q) = rw (here 1 q) at (bad_behind_end w ws p)
     go (short_body h p l q) =
         let place : suc (length ws) ≡ n = omega (arith, here (1 + length ws) q) in
         rw place at (bad_short_body w ws h p l are')
     go (bad_padding h p l z q) = bad_padding_found w ws h p l z are' n (here (body_length h) q)
-    go (a_call _ _ _ _ q) = clash (cc)
+    go (a_call _ _ _ _ q) = cc

@@ -10,7 +10,6 @@ use Rattle.model.specs.Bytes.{all}
 use Rattle.model.specs.Receiver.{Call}
 use Rattle.model.specs.Tape.{call_words, Found, found_call, found_end, found_bad, find, CallsRead, read_calls, bad_word, before, found_before, calls_from, call_fits}
 use Rattle.model.proofs.ListLaws.{all_cons, all_drop, alike_shorter, alike_behind, alike_appended, alike_long}
-use Rattle.model.proofs.BoolLaws.{clash}
 use Rattle.model.proofs.BytesLaws.{is_word}
 use Rattle.model.proofs.TapeCall.{find_call, CallFound, call_found_law}
 use Rattle.model.proofs.TapeCalls.{ended_words, call_takes_words, calls_step}
@@ -100,7 +99,7 @@ module _ (c : Call) (n : ℕ) (ws : List ℕ) (f : CallFound ws c n) (m : ℕ) (
 
 before_bad : (c : Call) (r : CallsRead) (p : ℕ) → before c r ≡ bad_word p → r ≡ bad_word p
 unfolding before
-before_bad c (read_calls cs) p e = clash (cc)
+before_bad c (read_calls cs) p e = cc
 before_bad c (bad_word q) p e = e
 
 -- a bad word is the first one
@@ -128,5 +127,5 @@ bad_calls (suc k) part place ws p are l e = go (λ n. bad_calls k part (place + 
         (before_bad c (calls_from k part (place + n) (drop n ws)) p (sym (calls_step k part place ws (found_call c n) q) ∙ e))
         in
         (n + r.0, omega (arith, r.1), bad_calls_later c n ws found r.0 r.2)
-    go further found_end q = let s = calls_step k part place ws found_end q in clash (cc)
+    go further found_end q = let s = calls_step k part place ws found_end q in cc
     go further (found_bad n) q = (n, cc (calls_step k part place ws (found_bad n) q), bad_calls_here ws n (bad_found part ws n are q))

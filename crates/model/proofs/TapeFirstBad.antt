@@ -11,7 +11,6 @@ use Rattle.model.specs.Bytes.{all}
 use Rattle.model.specs.Receiver.{Setup}
 use Rattle.model.specs.Tape.{words_of, ends_in_part, bytes_of, setup_word, word_of, CallsRead, read_calls, bad_word, calls_from, Tape, read_tape, bad_tape, setup_length, setup_of, with_setup, read_words, read, setup_body, setup_words, setup_fits}
 use Rattle.model.proofs.ListLaws.{all_tail, all_append, all_take, all_drop, all_replicate, alike_cons, alike_shorter, alike_behind, alike_appended}
-use Rattle.model.proofs.BoolLaws.{clash}
 use Rattle.model.proofs.BytesLaws.{is_byte, bytes_of_are_bytes, is_word, bytes_of_words_of, take_words_of, take_bytes_of, words_of_are_words}
 use Rattle.model.proofs.TapeCalls.{ended_words}
 use Rattle.model.proofs.TapeSetup.{body_of_setup_of, setup_body_length, TapeFits, tape_words, Opening, no_setup, short_setup, a_setup, opening, setup_read}
@@ -131,7 +130,7 @@ module _ (ws : List ℕ) (l : setup_length ≤ length ws) (are : all is_word ws 
 
 with_setup_bad : (x : Setup) (r : CallsRead) (p : ℕ) → with_setup x r ≡ bad_tape p → r ≡ bad_word p
 unfolding with_setup
-with_setup_bad x (read_calls cs) p e = clash (cc)
+with_setup_bad x (read_calls cs) p e = cc
 with_setup_bad x (bad_word q) p e = cc
 
 bad_words : (part : Bool) (ws : List ℕ) (p : ℕ) → all is_word ws ≡ true → read_words part ws ≡ bad_tape p → BadWords ws p
@@ -171,7 +170,7 @@ words_alike bytes bytes' p a =
     rw (← add-one p, take_words_of (p + 1) bytes', take_words_of (p + 1) bytes, a)
 
 read_is_not_bad : (bytes : List ℕ) (t : Tape) (p : ℕ) → read bytes ≡ read_tape t → read bytes ≡ bad_tape p → ⊥
-read_is_not_bad bytes t p e q = clash (cc)
+read_is_not_bad bytes t p e q = cc
 
 pub record FirstBadWord (bytes : List ℕ) (p : ℕ) : Type 0 where
   pub within : p ≤ length (words_of bytes)

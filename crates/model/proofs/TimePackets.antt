@@ -3,7 +3,7 @@
 use Prim.Native.Nat.{ℕ, ◌^◌, ◌≤◌, ◌<◌}
 use native.Mathlib.Omega.{arith}
 use mathlib.Core.Path.{◌≡◌, refl, sym, ap, ◌∙◌}
-use mathlib.Core.Bool.{Bool, true, false, ◌&&◌, cond}
+use mathlib.Core.Bool.{Bool, true, false, cond, and-false}
 use mathlib.Core.Option.{none, some}
 use mathlib.Core.List.{List, [], ◌++◌, append-nil}
 use lib.ListN.{length, length-append}
@@ -12,7 +12,7 @@ use borrow.Author.Tests.{ltb-true, le-leb, lt-leb, eq-eqb, ne_eqb}
 use Rattle.model.specs.Bytes.{big_endian, big_endian_at, big_endian_bytes}
 use Rattle.model.specs.Framing.{Header, header_length, header_fields, parse_header, TimeRequest, TimeResponse, request_type, response_type, time_header, build_request, build_response, time_packet, parse_request, parse_response}
 use Rattle.model.proofs.BytesLaws.{number_of_bytes}
-use Rattle.model.proofs.BoolLaws.{by_test, clash, both_and}
+use Rattle.model.proofs.BoolLaws.{by_test, both_and}
 
 -- a header that parses is the datagram's fields
 pub header_found_law : (bytes : List ℕ) {h : Header} → some h ≡ parse_header bytes → h ≡ header_fields bytes
@@ -20,17 +20,13 @@ unfolding parse_header
 header_found_law bytes {h} e = by_cases (ltb (length bytes) header_length) e
   where
     by_cases : (b : Bool) → some h ≡ cond b none (some (header_fields bytes)) → h ≡ header_fields bytes
-    by_cases true e = clash (cc)
+    by_cases true e = cc
     by_cases false e = cc
 
 pub header_missing : (bytes : List ℕ) → none ≡ parse_header bytes → length bytes < header_length
 unfolding parse_header
 header_missing bytes e =
-    by_test (ltb (length bytes) header_length) (λ short. ltb-true (length bytes) header_length short) (λ long. clash (cc))
-
-and_false : (b : Bool) → (b && false) ≡ false
-and_false true = refl
-and_false false = refl
+    by_test (ltb (length bytes) header_length) (λ short. ltb-true (length bytes) header_length short) (λ long. cc)
 
 module _ (type size : ℕ) (bytes : List ℕ) where
   pub short_no_time_packet : length bytes < size → time_packet type size bytes ≡ false
@@ -47,7 +43,7 @@ module _ (type size : ℕ) (bytes : List ℕ) where
       let otherField : (header_fields bytes).stream_type ≡ type → ⊥ =
       λ e. other (ap (λ (g : Header). g.stream_type) (header_found_law bytes found) ∙ e)
       in
-      rw (ne_eqb (header_fields bytes).stream_type type otherField) (and_false (leb size (length bytes)))
+      rw (ne_eqb (header_fields bytes).stream_type type otherField) (and-false (leb size (length bytes)))
 
   pub time_packet_found : {h : Header} → some h ≡ parse_header bytes → h.stream_type ≡ type → size ≤ length bytes
       → time_packet type size bytes ≡ true
@@ -55,21 +51,6 @@ module _ (type size : ℕ) (bytes : List ℕ) where
   time_packet_found {h} found same long =
       both_and (le-leb size (length bytes) long)
       (eq-eqb (header_fields bytes).stream_type type (ap (λ (g : Header). g.stream_type) (sym (header_found_law bytes found)) ∙ same))
-
--- ---- numbers read from a packet whose header and length pass the tests
-
-module _ (bytes : List ℕ) {h : Header} (found : some h ≡ parse_header bytes) where
-  pub parsed_request : {t1 : ℕ} → h.stream_type ≡ request_type → 24 ≤ length bytes → t1 ≡ big_endian_at 16 8 bytes
-      → some (record { probe = h.sequence; t1 = t1 }) ≡ parse_request bytes
-  unfolding parse_request
-  parsed_request same long e1 = rw (time_packet_found request_type 24 bytes found same long, header_found_law bytes found, e1)
-
-  pub parsed_response : {t1 t2 t3 : ℕ} → h.stream_type ≡ response_type → 40 ≤ length bytes
-      → t1 ≡ big_endian_at 16 8 bytes → t2 ≡ big_endian_at 24 8 bytes → t3 ≡ big_endian_at 32 8 bytes
-      → some (record { probe = h.sequence; t1 = t1; t2 = t2; t3 = t3 }) ≡ parse_response bytes
-  unfolding parse_response
-  parsed_response same long e1 e2 e3 =
-      rw (time_packet_found response_type 40 bytes found same long, header_found_law bytes found, e1, e2, e3)
 
 -- ---- sizes of what is built
 

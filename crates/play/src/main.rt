@@ -11,20 +11,21 @@ mod saying;
 ghost use Rattle.io.specs.Counts.{IsPrefixLen};
 
 use playback_parts::Form;
-use printing::{Areas, FLOATS, WORDS, Wanted};
+use printing::{Areas, FLOATS, WORDS, Wanted, not_accepted};
+use saying::NotPlayed;
 use std::env::{Env, FillError};
 
 const WINDOW: usize = 524288;
 
 // The replay over areas that are made here, and lent whole.
-fn lend(wanted: Wanted<'_>, window: &mut [u8]) {
+fn lend(wanted: Wanted<'_>, window: &mut [u8]) -> Result<(), NotPlayed> {
     let mut areas = Areas {
         fs: [0.0; FLOATS],
         us: [0; WORDS],
         samples: [0.0; 65535],
         text: [0; 65536],
     };
-    printing::replay(wanted, window, &mut areas);
+    printing::replay(wanted, window, &mut areas)
 }
 
 // How many arguments there are, the program's name among them.
@@ -48,46 +49,32 @@ fn argument(rt: HostRuntime, left: usize, word: &mut [u8; 4096]) -> usize
 
 // Takes the last so many arguments. (A function that calls itself takes no large memory into its own: so the areas are laid
 // out only where a replay begins.)
-fn take(rt: HostRuntime, left: usize, form: Form) {
+fn take(rt: HostRuntime, left: usize, form: Form) -> Result<(), NotPlayed> {
     if left == 0 {
-        saying::usage();
-        return;
+        return Err(NotPlayed::Usage);
     }
     let mut word = io::buffer();
     let n = argument(rt, left, &mut word);
     if &word[..n] == b"--summary".as_slice() {
-        take(rt, left - 1, Form::Summary);
-        return;
+        return take(rt, left - 1, Form::Summary);
     }
     if left != 1 {
-        saying::usage();
-        return;
+        return Err(NotPlayed::Usage);
     }
-    let Some(file) = files::open(&rt, &word[..n]) else {
-        saying::unreadable();
-        return;
-    };
+    let file = files::open(&rt, &word[..n]).ok_or(NotPlayed::Unreadable)?;
     let mut window = [0u8; WINDOW];
-    match tape_files::check(&file, &mut window) {
-        Ok(setup) => {
-            let shown = progress::begin(&rt.stdout(), &rt.stderr());
-            let wanted = Wanted {
-                file: &file,
-                setup,
-                form,
-                shown,
-            };
-            lend(wanted, &mut window);
-        }
-        Err(why) => printing::not_accepted(why),
-    }
+    let setup = tape_files::check(&file, &mut window).map_err(not_accepted)?;
+    let wanted = Wanted {
+        file: &file,
+        setup,
+        form,
+        shown: progress::begin(&rt.stdout(), &rt.stderr()),
+    };
+    lend(wanted, &mut window)
 }
 
+// Without the program's name no argument is left.
 fn main(rt: HostRuntime) {
-    let count = argument_count(rt);
-    if count == 0 {
-        saying::usage();
-        return;
-    }
-    take(rt, count - 1, Form::Full);
+    let left = argument_count(rt).saturating_sub(1);
+    saying::tell(take(rt, left, Form::Full));
 }

@@ -1,52 +1,44 @@
 // What is printed and said of the tape in a file.
 ghost use Rattle.std.specs.Prelude.{◌≤◌, length};
 
-use crate::saying;
-use files::{Failure, File};
+use crate::saying::{NotPlayed, put};
+use files::File;
 use playback_files::NotReplayed;
 use playback_opening::NotBegun;
-use playback_parts::Form;
+use playback_parts::{Form, PIECE};
 use playback_windows::refuse_in;
 use progress::Progress;
 use tape::Setup;
 use tape_files::NotAccepted;
 
 // The line of a refusal, so many bytes.
-fn refused(text: &[u8], n: usize)
+fn refused(text: &[u8], n: usize) -> NotPlayed
     requires { n ≤ length text.now }
 {
-    if saying::put(&text[..n]) {
-        saying::refused();
-        return;
+    if put(&text[..n]) {
+        NotPlayed::Refused
+    } else {
+        NotPlayed::Unwritten
     }
-    saying::unwritten();
 }
 
 // The line of a tape that is refused at a place.
-fn refuse(place: usize, text: &mut [u8]) {
+fn refuse(place: usize, text: &mut [u8]) -> NotPlayed {
     match refuse_in(text, place) {
         NotBegun::Refused(n) => refused(text, n),
-        NotBegun::NoRoom => saying::unwritten(),
+        NotBegun::NoRoom => NotPlayed::Unwritten,
     }
 }
 
-// A part of the file is not there.
-fn failed(failure: Failure) {
-    match failure {
-        Failure::Shorter => saying::shorter(),
-        Failure::Unreadable => saying::unreadable(),
-    }
-}
-
-// What is printed of a tape that is not accepted.
-pub fn not_accepted(why: NotAccepted) {
+// A tape that is not accepted. Where its words are bad, its line is printed.
+pub fn not_accepted(why: NotAccepted) -> NotPlayed {
     match why {
         NotAccepted::Bad(bad) => {
-            let mut text = [0u8; 170];
-            refuse(bad.place, &mut text);
+            let mut text = [0u8; PIECE];
+            refuse(bad.place, &mut text)
         }
-        NotAccepted::Failed(failure) => failed(failure),
-        NotAccepted::NoRoom => saying::unreadable(),
+        NotAccepted::Failed(failure) => failure.into(),
+        NotAccepted::NoRoom => NotPlayed::Unreadable,
     }
 }
 
@@ -64,7 +56,8 @@ pub const FLOATS: usize = 868277;
 
 pub const WORDS: usize = 33816576;
 
-// What is lent to a replay, beside the window.
+// What is lent to a replay, beside the window. (Not one type with that of `replay_vectors`, by const parameters: it would take a
+// library, and four numbers in each program, for six lines.)
 #[derive(Drop)]
 pub struct Areas {
     pub fs: [f32; FLOATS],
@@ -74,7 +67,7 @@ pub struct Areas {
 }
 
 // The replay of a tape that was accepted.
-pub fn replay(wanted: Wanted<'_>, window: &mut [u8], areas: &mut Areas) {
+pub fn replay(wanted: Wanted<'_>, window: &mut [u8], areas: &mut Areas) -> Result<(), NotPlayed> {
     let Wanted {
         file,
         setup,
@@ -92,10 +85,10 @@ pub fn replay(wanted: Wanted<'_>, window: &mut [u8], areas: &mut Areas) {
         &mut areas.samples,
         &mut areas.text,
     ) {
-        Ok(()) => saying::over(),
-        Err(NotReplayed::Refused(n)) => refused(&areas.text, n),
-        Err(NotReplayed::NoRoom | NotReplayed::Unwritten) => saying::unwritten(),
-        Err(NotReplayed::Failed(failure)) => failed(failure),
-        Err(NotReplayed::Changed) => saying::changed(),
+        Ok(()) => Ok(()),
+        Err(NotReplayed::Refused(n)) => Err(refused(&areas.text, n)),
+        Err(NotReplayed::NoRoom | NotReplayed::Unwritten) => Err(NotPlayed::Unwritten),
+        Err(NotReplayed::Failed(failure)) => Err(failure.into()),
+        Err(NotReplayed::Changed) => Err(NotPlayed::Changed),
     }
 }

@@ -9,10 +9,10 @@ use lib.Ieee.{Float}
 use Rattle.model.specs.Sizes.{Sizes, sizes_allowed}
 use Rattle.model.specs.Framing.{Header, Side, A, B, Stream, audio, waterfall, other_stream, stream_in}
 use Rattle.model.specs.Row.{Row}
-use Rattle.model.specs.Receiver.{Lent, Call, datagram, play, reset, set, probe, one_way, depth, transmit_depth, Channel, State, Answer, refused, accepted, played, row, StepResult}
+use Rattle.model.specs.Receiver.{Lent, Call, datagram, play, reset, set, Channel, State, Answer, refused, accepted, played, row, StepResult}
 use Rattle.model.specs.Questions.{first_no, questions}
 use Rattle.model.specs.Step.{ChannelResult, play_channel, reset_channel, set_channel, audio_into, chunk_result, waterfall_into, on_side, on_clock, dispatch, take_datagram, changes, accept, decide, step}
-use Rattle.model.proofs.BoolLaws.{by_test, clash}
+use Rattle.model.proofs.BoolLaws.{by_test}
 
 pub data Kind : Type 0 where
   refusal plain samples rows : Kind
@@ -26,12 +26,7 @@ answer_kind (row r) = rows
 abbrev pub call_kind : Call → Kind
 call_kind (datagram bytes) = rows
 call_kind (play side n) = samples
-call_kind (reset side) = plain
-call_kind (set side x) = plain
-call_kind (probe t1 t2 t3 t4) = plain
-call_kind (one_way receive send) = plain
-call_kind (depth n counts) = plain
-call_kind (transmit_depth n) = plain
+call_kind _ = plain
 
 side_kind : (side : Side) (f : Channel → ChannelResult) (s : State) (k : Kind) → ((c : Channel) → answer_kind (f c).answer ≡ k) → answer_kind (on_side side f s).answer ≡ k
 unfolding on_side
@@ -63,17 +58,12 @@ accepted_kind (datagram bytes) s = dispatch_kind _ bytes (stream_in bytes) _
 accepted_kind (play side n) s = side_kind side _ s samples (λ c. refl)
 accepted_kind (reset side) s = side_kind side _ s plain (λ c. refl)
 accepted_kind (set side x) s = side_kind side _ s plain (λ c. refl)
-accepted_kind (probe t1 t2 t3 t4) s = refl
-accepted_kind (one_way receive send) s = refl
-accepted_kind (depth n counts) s = refl
-accepted_kind (transmit_depth n) s = refl
+accepted_kind _ s = refl
 
 -- an answer that is no refusal
 abbrev pub Answers : Kind → Type 0
 Answers refusal = ⊥
-Answers plain = Unit {0}
-Answers samples = Unit {0}
-Answers rows = Unit {0}
+Answers _ = Unit {0}
 
 decided_kind : (o : Option ℕ) (c : Call) (s : State) → Answers (answer_kind (decide o c s).answer) → (o ≡ none) × (answer_kind (decide o c s).answer ≡ call_kind c)
 unfolding decide
@@ -93,4 +83,4 @@ module _ (lent : Lent) (c : Call) (s s' : State) (a : Answer) (steps : step lent
 
   pub answer_allowed : sizes_allowed s.sizes ≡ true
   unfolding questions first_no
-  answer_allowed = by_test (sizes_allowed s.sizes) (λ yes. yes) (λ no. let refuses : some 1 ≡ none = rw no at decided.0 in clash (cc))
+  answer_allowed = by_test (sizes_allowed s.sizes) (λ yes. yes) (λ no. let refuses : some 1 ≡ none = rw no at decided.0 in cc)

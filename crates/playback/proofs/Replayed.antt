@@ -4,14 +4,11 @@ use mathlib.Core.Path.{◌≡◌, refl, sym, ◌∙◌, ap}
 use mathlib.Core.Bool.{true, true≢false}
 use mathlib.Core.List.{List, [], ◌++◌, append_assoc, append-nil}
 use native.Mathlib.Omega.{arith}
-use lib.ListN.{length, take, drop, length-append}
-use lib.Seq.{take_at}
+use lib.ListN.{take}
 use lib.Ieee.{Float}
 use Rattle.std.specs.Prelude.{Some, None, Ok, Err}
-use Rattle.model.specs.Bytes.{placed}
 use Rattle.model.specs.Receiver.{Call}
 use Rattle.model.specs.Tape.{call_at, found_bad}
-use Rattle.model.proofs.BoolLaws.{clash}
 use Rattle.model.proofs.TapeWalk.{CallsAt, ended, met}
 use Rattle.playback_parts.specs.declared.Form.{Form}
 use Rattle.playback_parts.specs.declared.Doing.{Doing}
@@ -19,15 +16,10 @@ use Rattle.playback_parts.specs.declared.Playback.{Playback}
 use Rattle.playback.specs.declared.Wrote.{Wrote}
 use Rattle.playback.specs.declared.StepError.{StepError}
 use Rattle.playback_opening.specs.declared.NotBegun.TheVariants as NotBegun
-use Rattle.playback_parts.specs.Parts.{TextPut}
+use Rattle.playback_parts.proofs.Texts.{put_front}
 use Rattle.playback_opening.specs.Beginnings.{BegunAs}
 use Rattle.playback.specs.Steps.{remaining, remaining_of, values_held, room_for, calls_now, place_next, steps_left, Step, DoneAs}
 use Rattle.playback.specs.Chains.{Moment, WroteAs, StepsAs, here, wrote}
-
--- what stands at the front is the text
-put_front : (text entry exit : List ℕ) (n : ℕ) → TextPut text entry exit n → take n exit ≡ text
-unfolding placed
-put_front text entry exit n put = rw (put.target, put.length_is) (take_at text _ (length text) refl)
 
 abbrev still : Form → Moment → List Call → List ℕ
 still form m cs = remaining_of form m.playback m.floats m.words m.samples cs
@@ -58,12 +50,7 @@ goes_on form tape m n text text' v step behind cs calls = by_doing m.playback.do
 
     by_doing : (d : Doing) → m.playback.doing ≡ d → CallsAt tape m.playback.place cs → GoesOn form tape m step.piece n cs
     by_doing Doing.Call doing calls = at_call cs refl doing calls
-    by_doing (Doing.Samples from end) doing calls = on cs (rw doing) (rw doing calls)
-    by_doing (Doing.Values from end) doing calls = on cs (rw doing) (rw doing calls)
-    by_doing Doing.LineB doing calls = on cs (rw doing) (rw doing calls)
-    by_doing Doing.LineI doing calls = on cs (rw doing) (rw doing calls)
-    by_doing Doing.LineC doing calls = on cs (rw doing) (rw doing calls)
-    by_doing Doing.Done doing calls = on cs (rw doing) (rw doing calls)
+    by_doing _ doing calls = on cs (rw doing) (rw doing calls)
 
 -- what was to be printed is what the steps wrote and what is still to be printed, by the calls that are left
 steps_onward : (form : Form) (tape : List ℕ) (m last : Moment) (printed : List ℕ) (cs : List Call) → StepsAs form tape m printed last → CallsAt tape m.playback.place cs → GoesOn form tape m printed last cs
@@ -97,8 +84,8 @@ steps_held form tape m last printed here held = held
 steps_held form tape m last printed (wrote {n = n} {printed = rest} step behind steps) held = steps_held form tape n last rest steps (rw behind step.held)
 
 no_bad_call : {tape : List ℕ} {place bad : ℕ} {cs : List Call} {P : Type 0} → CallsAt tape place cs → call_at tape place ≡ found_bad bad → P
-no_bad_call (ended found) is = clash (cc)
-no_bad_call (met found rest) is = clash (cc)
+no_bad_call (ended found) is = cc
+no_bad_call (met found rest) is = cc
 
 step_writes : (form : Form) (tape : List ℕ) (w : Playback) (fs : List Float) (us : List ℕ) (samples : List Float) (text : List ℕ) (v : Step) (fs' : List Float) (us' : List ℕ) (samples' : List Float) (text' : List ℕ) (cs : List Call)
     → CallsAt tape w.place cs → values_held w.doing fs samples ≡ true → room_for tape w samples text ≡ true → (w.doing ≡ Doing.Done → ⊥)
@@ -125,11 +112,6 @@ steps_end form tape m last printed here = omega arith
 steps_end form tape m last printed (wrote {n = n} {printed = rest} step behind steps) =
     let less : left_at tape n < left_at tape m = rw behind step.less in
     omega (arith, less, steps_end form tape n last rest steps)
-
--- the bytes of a piece lie inside the text
-pub put_inside : (text entry exit : List ℕ) (n : ℕ) → TextPut text entry exit n → n ≤ length exit
-unfolding placed
-put_inside text entry exit n put = rw (put.target, put.length_is) (rw (length-append text (drop (0 + length text) entry)) (omega arith))
 
 -- ---- a whole replay
 

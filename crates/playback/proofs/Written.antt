@@ -3,10 +3,10 @@ use Prim.Native.Nat.{ℕ, ◌+◌, ◌-◌, ◌≤◌, ◌<◌, min}
 use mathlib.Core.Path.{◌≡◌, refl, sym, ◌∙◌, ap}
 use mathlib.Core.Bool.{true, false, ◌&&◌, true≢false}
 use Rattle.std.proofs.Common.{Option, Some, None, Result, Ok, Err}
-use Rattle.std.specs.Prelude.{MatchOption, IfSome}
+use Rattle.std.specs.Prelude.{IfSome}
 use mathlib.Core.List.{List, ◌++◌, append_assoc, append-nil}
 use native.Mathlib.Omega.{arith}
-use lib.ListN.{length, take, drop}
+use lib.ListN.{length, take, drop, length-take, length-drop}
 use lib.Ieee.{Float}
 use lib.Dec.{leb}
 use borrow.Author.Tests.{le-leb}
@@ -18,13 +18,14 @@ use Rattle.model.specs.Sizes.{sizes_allowed}
 use Rattle.model.specs.Step.{step}
 use Rattle.model.specs.Tape.{words_of, call_at, found_call, found_end}
 use Rattle.model.specs.Replay.{side_of, channel_line, incoming_line, clock_line, closing_lines}
-use Rattle.model.proofs.BoolLaws.{clash, both_and}
+use Rattle.model.proofs.BoolLaws.{both_and}
 use Rattle.model.proofs.BytesLaws.{is_byte}
 use Rattle.calls.specs.Views.{sizes_of}
 use Rattle.receiver_state.specs.declared.Receiver.{Receiver}
+use Rattle.calls.specs.declared.PlayedSamples.{PlayedSamples}
 use Rattle.calls.specs.declared.Refusal.{Refusal}
 use Rattle.receiver_state.specs.declared.Answer.{Answer}
-use Rattle.receiver_state.specs.declared.Answer.TheVariants.{Accepted, Played, NoRow, Row}
+use Rattle.receiver_state.specs.declared.Answer.TheVariants.{Played, Row}
 use Rattle.receiver_state.specs.declared.Answered.{Answered}
 use Rattle.receiver_state.specs.View.{state_of, lent_of, answer_of}
 use Rattle.receiver_state.specs.Report.{counters_in, report_of}
@@ -41,10 +42,12 @@ use Rattle.playback_parts.specs.declared.parts.Part.{Part}
 use Rattle.playback_parts.specs.Facts.{place_of, CallFacts}
 use Rattle.playback_parts.specs.Parts.{part_ended, part_left, PartPut}
 use Rattle.playback_parts.specs.Forms.{answer_as, printed_from}
-use Rattle.playback_parts.proofs.FormLaws.{printed_end, printed_step}
-use Rattle.playback.specs.Steps.{remaining, remaining_of, values_held, makes_call, stage, steps_left, calls_now, place_next, CallDone, WrittenAs, doing_after, left_as, RowStands, CallBegun, Printed, incoming_of, clock_of, behind_part, Step, PartDone, DoneAs}
+use Rattle.playback_parts.proofs.FormLaws.{steps_of}
+use Rattle.playback.specs.Steps.{remaining, remaining_of, values_held, stage, steps_left, calls_now, place_next, CallDone, WrittenAs, doing_after, left_as, RowStands, CallBegun, Printed, incoming_of, clock_of, behind_part, Step, PartDone, DoneAs}
+use Rattle.playback_parts.specs.Doings.{makes_call}
 use Rattle.playback.proofs.AnswerKinds.{rows, samples, call_kind, answer_kind_law, answer_allowed}
-use Rattle.playback.proofs.Walks.{call_moves, stage_few, moved_less, part_inside}
+use Rattle.model.proofs.TapeCall.{call_goes_on}
+use Rattle.playback.proofs.Walks.{stage_few, moved_less, part_inside, part_behind}
 
 -- ---- a call
 
@@ -54,14 +57,8 @@ record PlayIs (c : Call) : Type 0 where
   is : c ≡ Model.play side count
 
 play_is : (c : Call) → samples ≡ call_kind c → PlayIs c
-play_is (Model.datagram bytes) e = clash (cc)
 play_is (Model.play side n) e = record { side = side; count = n; is = refl }
-play_is (Model.reset side) e = clash (cc)
-play_is (Model.set side x) e = clash (cc)
-play_is (Model.probe t1 t2 t3 t4) e = clash (cc)
-play_is (Model.one_way receive send) e = clash (cc)
-play_is (Model.depth n counts) e = clash (cc)
-play_is (Model.transmit_depth n) e = clash (cc)
+play_is _ e = cc
 
 record DatagramIs (c : Call) : Type 0 where
   bytes : List ℕ
@@ -69,13 +66,7 @@ record DatagramIs (c : Call) : Type 0 where
 
 datagram_is : (c : Call) → rows ≡ call_kind c → DatagramIs c
 datagram_is (Model.datagram bytes) e = record { bytes = bytes; is = refl }
-datagram_is (Model.play side n) e = clash (cc)
-datagram_is (Model.reset side) e = clash (cc)
-datagram_is (Model.set side x) e = clash (cc)
-datagram_is (Model.probe t1 t2 t3 t4) e = clash (cc)
-datagram_is (Model.one_way receive send) e = clash (cc)
-datagram_is (Model.depth n counts) e = clash (cc)
-datagram_is (Model.transmit_depth n) e = clash (cc)
+datagram_is _ e = cc
 
 module _ (c : Call) (r : Receiver) (fs : List Float) (us : List ℕ) (lent : List Float) (v : Answered) (fs' : List Float) (us' : List ℕ) (lent' : List Float)
     (made : CallMade c r fs us lent v fs' us' lent') (next : ℕ) (facts : Facts) (known : CallFacts (sizes_of r.sizes) c next facts) where
@@ -91,9 +82,9 @@ module _ (c : Call) (r : Receiver) (fs : List Float) (us : List ℕ) (lent : Lis
   unfolding remaining
   nothing_behind form = record { text = λ lines cs s e. e; inside = refl }
 
-  samples_behind : (form : Form) (taken dropped short : ℕ) → v.answer ≡ Ok (Played taken dropped short) → Behind form Left.Samples (Doing.Samples 0 facts.samples)
+  samples_behind : (form : Form) (p : PlayedSamples) → v.answer ≡ Ok (Played p) → Behind form Left.Samples (Doing.Samples 0 facts.samples)
   unfolding remaining
-  samples_behind form taken dropped short is =
+  samples_behind form p is =
       let play = play_is c (rw is at (answer_kind_law (lent_of fs us) c (state_of r fs us) (state_of v.receiver fs' us') (answer_of v.answer values) made.called.steps (rw is tt))) in
       let asked : facts.samples - 0 ≡ play.count = omega (arith, known.samples, ap samples_asked play.is) in
       let are : values ≡ part 0 (facts.samples - 0) lent' = ap (λ (d : Call). values_of r d fs' lent') play.is ∙ rw asked in
@@ -124,11 +115,9 @@ module _ (c : Call) (r : Receiver) (fs : List Float) (us : List ℕ) (lent : Lis
       }
 
   full_behind : (form : Form) (a : Result Answer Refusal) → v.answer ≡ a → Behind form (left_behind a) (doing_after (left_behind a) facts (length fs'))
-  full_behind form (Err why) is = nothing_behind form
-  full_behind form (Ok Accepted) is = nothing_behind form
-  full_behind form (Ok (Played taken dropped short)) is = samples_behind form taken dropped short is
-  full_behind form (Ok NoRow) is = nothing_behind form
+  full_behind form (Ok (Played p)) is = samples_behind form p is
   full_behind form (Ok (Row n)) is = row_behind form n is
+  full_behind form _ is = nothing_behind form
 
   behind : (form : Form) → Behind form (left_as form v.answer) (doing_after (left_as form v.answer) facts (length fs'))
   behind Form.Full = full_behind Form.Full v.answer refl
@@ -155,7 +144,7 @@ module _ (c : Call) (r : Receiver) (fs : List Float) (us : List ℕ) (lent : Lis
         let left = left_of (left_as form v.answer) values in
         let rest = printed_from form (lent_of fs us) cs s' in
         let first : printed_from form (lent_of fs us) (calls_now Doing.Call (call_at tape place) cs) s ≡ answer_as form (side_of c) (step (lent_of fs us) c s).answer ++ printed_from form (lent_of fs us) cs (step (lent_of fs us) c s).after =
-        rw found (printed_step form (lent_of fs us) c cs s) in
+        rw found ((steps_of form).printed_step (lent_of fs us) c cs s) in
         let second : answer_as form (side_of c) (step (lent_of fs us) c s).answer ++ printed_from form (lent_of fs us) cs (step (lent_of fs us) c s).after ≡ (begun.piece ++ left) ++ rest =
         rw (made.called.steps, ← known.side, begun.line_is values row_stands) in
         let same : rest ≡ printed_from form (lent_of fs' us') cs s' = rw (made.called.areas.float_length, made.called.areas.word_length) in
@@ -170,7 +159,7 @@ module _ (c : Call) (r : Receiver) (fs : List Float) (us : List ℕ) (lent : Lis
     fewer : steps_left tape w.playback fs' lent' < steps_left tape at fs lent
     unfolding steps_left
     fewer =
-        let moves = call_moves tape are place c next found in
+        let moves = call_goes_on tape place next c found in
         rw (begun.behind, ← made.called.areas.float_length, ← made.sample_length)
         (moved_less (length (words_of tape)) place facts.next (length fs' + length lent') (stage after) (rw known.next_place moves.0) (rw known.next_place moves.1)
         (stage_few after fs' lent' lines_behind.inside))
@@ -183,19 +172,13 @@ module _ (c : Call) (r : Receiver) (fs : List Float) (us : List ℕ) (lent : Lis
           float_length = made.called.areas.float_length;
           word_length = made.called.areas.word_length;
           sample_length = made.sample_length;
-          only_calls_law = λ no. clash (cc);
+          only_calls_law = λ no. cc;
           made = λ d n is there. done d n there;
           next_place = rw (begun.behind, found) known.next_place;
           lines = goes;
           held = rw begun.behind lines_behind.inside;
           less = fewer;
         }
-
--- what comes after a part of a line's values, by each function that tells what is made of a place
-pub behind_is : (next : Option ℕ) (made : ℕ → Doing → Type 0) (d : Doing) → MatchOption next (d ≡ Doing.Call) (λ k. made k d)
-    → (again : ℕ → Doing) → ((k : ℕ) (e : Doing) → made k e → e ≡ again k) → d ≡ behind_part next again
-behind_is None made d is again tells = is
-behind_is (Some from) made d is again tells = tells from d is
 
 -- ---- other pieces: the receiver and what is lent stay
 
@@ -230,7 +213,7 @@ module _ (form : Form) (tape : List ℕ) (w : Playback) (fs : List Float) (us : 
       → WrittenAs form tape w fs us lent text v fs us lent text'
   unfolding remaining closing_lines
   line_a_written v doing found printed =
-      printed_written _ Doing.LineB v printed (λ c next is there. clash (cc)) (rw (doing, found)) (λ cs. rw (doing, found) (printed_end form (lent_of fs us) (state_of w.receiver fs us))) refl (rw doing (omega arith))
+      printed_written _ Doing.LineB v printed (λ c next is there. cc) (rw (doing, found)) (λ cs. rw (doing, found) ((steps_of form).printed_end (lent_of fs us) (state_of w.receiver fs us))) refl (rw doing (omega arith))
 
   -- what prints makes no call
   prints_only : (d : Doing) → makes_call d ≡ false → w.doing ≡ d → (c : Call) (next : ℕ) → makes_call w.doing ≡ true → call_at tape w.place ≡ found_call c next → ⊥
@@ -253,8 +236,8 @@ module _ (form : Form) (tape : List ℕ) (w : Playback) (fs : List Float) (us : 
 
   -- ---- values of a line
 
-  abbrev left_by : Part → (ℕ → Doing) → Wrote
-  left_by p again = record { playback = record { receiver = w.receiver; place = w.place; doing = behind_part p.next again }; bytes = p.bytes }
+  abbrev left_by : ℕ → Part → (ℕ → Doing) → Wrote
+  left_by from p again = record { playback = record { receiver = w.receiver; place = w.place; doing = behind_part from p.next again }; bytes = p.bytes }
 
   -- a line's values are printed from a place on, up to `end`, and then the line's end
   record PrintsValues (end : ℕ) (xs : List Float) (again : ℕ → Doing) : Type 0 where
@@ -266,36 +249,38 @@ module _ (form : Form) (tape : List ℕ) (w : Playback) (fs : List Float) (us : 
     stages : (from : ℕ) → stage (again from) ≡ 5 + (end - from)
 
   module _ (end : ℕ) (xs : List Float) (again : ℕ → Doing) (prints : PrintsValues end xs again) (from : ℕ) where
+    abbrev here : List Float
+    here = part from (end - from) xs
+
     -- what comes behind a part, and the values that are left then
     record BehindPart (next : Option ℕ) : Type 0 where
-      lines : (cs : List Call) → from_here (behind_part next again) cs ≡ part_left next end xs ++ printed_from form (lent_of fs us) cs (state_of w.receiver fs us)
-      held : values_held (behind_part next again) fs lent ≡ true
-      few : stage (behind_part next again) < 5 + (end - from)
+      lines : (cs : List Call) → from_here (behind_part from next again) cs ≡ part_left next here ++ printed_from form (lent_of fs us) cs (state_of w.receiver fs us)
+      held : values_held (behind_part from next again) fs lent ≡ true
+      few : stage (behind_part from next again) < 5 + (end - from)
 
-    behind_a_part : (next : Option ℕ) → end ≤ length xs → IfSome next (λ k. k ≤ end) → IfSome next (λ k. from < k) → BehindPart next
+    behind_a_part : (next : Option ℕ) → from ≤ end → end ≤ length xs → IfSome next (λ n. n ≤ length here) → IfSome next (λ n. 0 < n) → BehindPart next
     unfolding remaining
-    behind_a_part None inside low further = record { lines = λ cs. refl; held = refl; few = omega arith }
-    behind_a_part (Some next) inside low further =
+    behind_a_part None order inside low further = record { lines = λ cs. refl; held = refl; few = omega arith }
+    behind_a_part (Some n) order inside low further =
+        let count : length here ≡ end - from = simp (length-take, length-drop) (omega arith) in
         record {
-          lines = prints.lines next;
-          held = rw (prints.held next) (both_and (le-leb next end low) (le-leb end (length xs) inside));
-          few = rw (prints.stages next) (omega (arith, low, further));
+          lines = λ cs. prints.lines (from + n) cs ∙ rw (part_behind from end n xs (omega (arith, low, count))) refl;
+          held = rw (prints.held (from + n)) (both_and (le-leb (from + n) end (omega (arith, low, count))) (le-leb end (length xs) inside));
+          few = rw (prints.stages (from + n)) (omega (arith, low, further, count));
         }
 
-    part_written : (p : Part) → w.doing ≡ again from → end ≤ length xs → PartPut xs from end text text' p → WrittenAs form tape w fs us lent text (left_by p again) fs us lent text'
-    part_written p doing inside put =
-        let behind = behind_a_part p.next inside put.inside put.further in
-        printed_written put.text (behind_part p.next again) (left_by p again) (record { put = put.put; behind = refl }) (prints_only (again from) (prints.quiet from) doing) (rw doing (prints.stays from))
-        (λ cs. rw (doing, prints.calls from cs, prints.lines from cs, put.line, behind.lines cs) (append_assoc put.text (part_left p.next end xs) (printed_from form (lent_of fs us) cs (state_of w.receiver fs us))))
+    part_written : (p : Part) → w.doing ≡ again from → from ≤ end → end ≤ length xs → PartPut here text text' p → WrittenAs form tape w fs us lent text (left_by from p again) fs us lent text'
+    part_written p doing order inside put =
+        let behind = behind_a_part p.next order inside put.inside put.further in
+        printed_written put.text (behind_part from p.next again) (left_by from p again) (record { put = put.put; behind = refl }) (prints_only (again from) (prints.quiet from) doing) (rw doing (prints.stays from))
+        (λ cs. rw (doing, prints.calls from cs, prints.lines from cs, put.line, behind.lines cs) (append_assoc put.text (part_left p.next here) (printed_from form (lent_of fs us) cs (state_of w.receiver fs us))))
         behind.held (rw (doing, prints.stages from) behind.few)
 
     part_done : (made : ℕ → Doing → Type 0) → ((k : ℕ) (d : Doing) → made k d → d ≡ again k) → w.doing ≡ again from → (r : Step)
         → PartDone made w xs from end text r text' → DoneAs form tape w fs us lent text r fs us lent text'
-    part_done made tells doing (Ok (Some v)) put = rw (put.behind again tells) (part_written put.part doing put.inside put.put)
+    part_done made tells doing (Ok (Some v)) put = rw (put.behind again tells) (part_written put.printed doing put.order put.inside put.put)
     part_done made tells doing (Err StepError.NotHeld) refused = (rw doing (prints.held from ∙ refused.0), ((refl, refl, refl), refused.1))
-    part_done made tells doing (Err StepError.NoRoom) never = absurd never
-    part_done made tells doing (Err (StepError.Bad bad)) never = absurd never
-    part_done made tells doing (Ok None) never = absurd never
+    part_done made tells doing _ never = absurd never
 
   module _ (from end : ℕ) (made : ℕ → Doing → Type 0) where
     pub samples_done : ((k : ℕ) (d : Doing) → made k d → d ≡ Doing.Samples k end) → w.doing ≡ Doing.Samples from end → (r : Step)

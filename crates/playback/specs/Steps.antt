@@ -1,5 +1,6 @@
 -- What is still to be printed of a replay in either form, and what a step promises. Assumes nothing.
 use Rattle.std.specs.Prelude.{ℕ, ◌+◌, ◌-◌, ◌*◌, ◌≤◌, ◌<◌, min, ◌≡◌, Bool, true, false, ◌&&◌, List, [], ◌∷◌, ◌++◌, map, length, drop, leb, Float, Option, Some, None, Result, Ok, Err}
+use Rattle.model.specs.Bytes.{part}
 use Rattle.model.specs.Framing.{B}
 use Rattle.model.specs.Receiver.{Lent, Call, State, Answer}
 use Rattle.model.specs.Tape as Tape
@@ -22,6 +23,7 @@ use Rattle.replaying.specs.Printing.{left_of, left_behind}
 use Rattle.playback_parts.specs.declared.Form.{Form}
 use Rattle.playback_parts.specs.declared.Doing.{Doing}
 use Rattle.playback_parts.specs.declared.Playback.{Playback}
+use Rattle.playback_parts.specs.Doings.{makes_call}
 use Rattle.playback.specs.declared.Wrote.{Wrote}
 use Rattle.playback.specs.declared.StepError.{StepError}
 use Rattle.playback_parts.specs.declared.facts.Facts.{Facts}
@@ -45,27 +47,13 @@ remaining form lent Doing.Done fs samples cs s = []
 abbrev pub remaining_of : Form → Playback → List Float → List ℕ → List Float → List Call → List ℕ
 remaining_of form w fs us samples cs = remaining form (lent_of fs us) w.doing fs samples cs (state_of w.receiver fs us)
 
--- only a call changes what is lent
-abbrev pub makes_call : Doing → Bool
-makes_call Doing.Call = true
-makes_call (Doing.Samples from end) = false
-makes_call (Doing.Values from end) = false
-makes_call Doing.LineB = false
-makes_call Doing.LineI = false
-makes_call Doing.LineC = false
-makes_call Doing.Done = false
-
 -- ---- what a step may ask for
 
 -- values from one place to another lie inside of what is lent
 abbrev pub values_held : Doing → List Float → List Float → Bool
-values_held Doing.Call fs samples = true
 values_held (Doing.Samples from end) fs samples = leb from end && leb end (length samples)
 values_held (Doing.Values from end) fs samples = leb from end && leb end (length fs)
-values_held Doing.LineB fs samples = true
-values_held Doing.LineI fs samples = true
-values_held Doing.LineC fs samples = true
-values_held Doing.Done fs samples = true
+values_held _ fs samples = true
 
 -- the samples that the next call asks for
 abbrev pub asked_in : Tape.Found → ℕ
@@ -75,12 +63,7 @@ asked_in (Tape.found_bad place) = 0
 
 abbrev pub asked_next : Doing → Tape.Found → ℕ
 asked_next Doing.Call f = asked_in f
-asked_next (Doing.Samples from end) f = 0
-asked_next (Doing.Values from end) f = 0
-asked_next Doing.LineB f = 0
-asked_next Doing.LineI f = 0
-asked_next Doing.LineC f = 0
-asked_next Doing.Done f = 0
+asked_next _ f = 0
 
 -- the text has room for a piece, and the samples for those that the next call asks for
 abbrev pub room_for : List ℕ → Playback → List Float → List ℕ → Bool
@@ -107,25 +90,12 @@ steps_left tape w fs samples = (length (words_of tape) - w.place) * (length fs +
 abbrev pub calls_now : Doing → Tape.Found → List Call → List Call
 calls_now Doing.Call (Tape.found_call c next) cs = c ∷ cs
 calls_now Doing.Call Tape.found_end cs = []
-calls_now Doing.Call (Tape.found_bad place) cs = cs
-calls_now (Doing.Samples from end) f cs = cs
-calls_now (Doing.Values from end) f cs = cs
-calls_now Doing.LineB f cs = cs
-calls_now Doing.LineI f cs = cs
-calls_now Doing.LineC f cs = cs
-calls_now Doing.Done f cs = cs
+calls_now _ _ cs = cs
 
 -- the place behind a call that was made
 abbrev pub place_next : Doing → Tape.Found → ℕ → ℕ
 place_next Doing.Call (Tape.found_call c next) place = next
-place_next Doing.Call Tape.found_end place = place
-place_next Doing.Call (Tape.found_bad at) place = place
-place_next (Doing.Samples from end) f place = place
-place_next (Doing.Values from end) f place = place
-place_next Doing.LineB f place = place
-place_next Doing.LineI f place = place
-place_next Doing.LineC f place = place
-place_next Doing.Done f place = place
+place_next _ _ place = place
 
 -- a call was made on the receiver
 pub record CallDone (c : Call) (r : Receiver) (fs : List Float) (us : List ℕ) (r' : Receiver) (fs' : List Float) (us' : List ℕ) : Type 0 where
@@ -193,11 +163,8 @@ pub record CallBegun (form : Form) (v : Answered) (facts : Facts) (fs : List Flo
 
 -- how many values of a row lie inside of what is lent
 abbrev pub row_length : Result Code.Answer Refusal → Facts → ℕ → ℕ
-row_length (Err why) facts floats = 0
-row_length (Ok Codes.Accepted) facts floats = 0
-row_length (Ok (Codes.Played taken dropped short)) facts floats = 0
-row_length (Ok Codes.NoRow) facts floats = 0
 row_length (Ok (Codes.Row n)) facts floats = min n (floats - min facts.row floats)
+row_length _ facts floats = 0
 
 -- a line was printed, and another thing comes next
 pub record Printed (w : Playback) (piece : List ℕ) (doing : Doing) (text text' : List ℕ) (v : Wrote) : Type 0 where
@@ -210,25 +177,24 @@ incoming_of r = line 73 (map decimal (incoming_numbers r))
 abbrev pub clock_of : Report → List ℕ
 clock_of r = line 67 (clock_words r)
 
--- what comes after a part of a line's values
-abbrev pub behind_part : Option ℕ → (ℕ → Doing) → Doing
-behind_part None again = Doing.Call
-behind_part (Some from) again = again from
+-- what comes after some of a line's values, which stand at a place
+abbrev pub behind_part : ℕ → Option ℕ → (ℕ → Doing) → Doing
+behind_part from None again = Doing.Call
+behind_part from (Some n) again = again (from + n)
 
 -- a part of a line's values was printed, and what comes behind it is told by each function that tells what is made of a place
 pub record PartWritten (made : ℕ → Doing → Type 0) (w : Playback) (xs : List Float) (from end : ℕ) (text text' : List ℕ) (v : Wrote) : Type 0 where
-  pub part : Part
-  pub put : PartPut xs from end text text' part
+  pub printed : Part
+  pub put : PartPut (part from (end - from) xs) text text' printed
+  pub order : from ≤ end
   pub inside : end ≤ length xs
   pub behind : (again : ℕ → Doing) → ((k : ℕ) (d : Doing) → made k d → d ≡ again k)
-      → v ≡ record { playback = record { receiver = w.receiver; place = w.place; doing = behind_part part.next again }; bytes = part.bytes }
+      → v ≡ record { playback = record { receiver = w.receiver; place = w.place; doing = behind_part from printed.next again }; bytes = printed.bytes }
 
 abbrev pub PartDone : (ℕ → Doing → Type 0) → Playback → List Float → ℕ → ℕ → List ℕ → Step → List ℕ → Type 0
 PartDone made w xs from end text (Ok (Some v)) text' = PartWritten made w xs from end text text' v
 PartDone made w xs from end text (Err StepError.NotHeld) text' = ((leb from end && leb end (length xs)) ≡ false) × (text' ≡ text)
-PartDone made w xs from end text (Err StepError.NoRoom) text' = ⊥
-PartDone made w xs from end text (Err (StepError.Bad bad)) text' = ⊥
-PartDone made w xs from end text (Ok None) text' = ⊥
+PartDone made w xs from end text _ text' = ⊥
 
 -- a call was found at the place, and there is room for the beginning of its line
 pub record MakeReady (tape : List ℕ) (w : Playback) (found : Found) (facts : Facts) (text : List ℕ) : Type 0 where

@@ -1,7 +1,7 @@
 // A step of a replay.
 // Lent one by one: of a struct of slices each contract had to say that each reference is kept, and each loop that each length is.
 // That a text has room for a piece stays in the contracts, as in `playback_parts`.
-ghost use Rattle.std.specs.Prelude.{◌&&◌, ◌≡◌, ◌≤◌, length, leb, Ok, Some};
+ghost use Rattle.std.specs.Prelude.{◌&&◌, ◌≡◌, ◌≤◌, length, Ok, Some};
 ghost use Rattle.playback.specs.Steps.{doing_after, row_length, CallBegun, MakeReady, PartDone, DoneAs, StepDone};
 ghost use Rattle.playback_parts.specs.declared.Doing.TheVariants as Doing;
 ghost use Rattle.playback_parts.specs.declared.Form.TheVariants as Form;
@@ -115,7 +115,9 @@ fn made(
     ensures { DoneAs form tape.now w fs.old us.old samples.old text.old result fs.new us.new samples.new text.new }
 {
     // That no call was found never comes, as the facts are those of one.
-    let v = act(w.receiver, fs, us, tape, found, samples).map_err(|_| StepError::NoRoom)?;
+    let Ok(v) = act(w.receiver, fs, us, tape, found, samples) else {
+        return Err(StepError::NoRoom);
+    };
     Ok(Some(begun(v, facts, fs, text, form)))
 }
 
@@ -133,12 +135,6 @@ fn on(w: Playback, doing: Doing, bytes: usize) -> Step
 
 // ---- values
 
-fn held(values: &[f32], from: usize, end: usize) -> bool
-    ensures { result ≡ (leb from end && leb end (length values.now)) }
-{
-    from <= end && end <= values.len()
-}
-
 // Of a line's values as many as fit, or the line's end. Where values are left, the next thing is what `again` makes of their place.
 fn part_of<F: Fn(usize) -> Doing>(
     w: Playback,
@@ -152,11 +148,13 @@ fn part_of<F: Fn(usize) -> Doing>(
     requires room { 170 ≤ length text.old }
     ensures { PartDone (F.post again) w values.now from end text.old result text.new }
 {
-    if !held(values, from, end) {
-        return Err(StepError::NotHeld);
-    }
-    let part = put_part(text, values, from, end);
-    let doing = part.next.map_or(Doing::Call, again);
+    let rest = values.get(from..end).ok_or(StepError::NotHeld)?;
+    let part = put_part(text, rest);
+    // No `map_or`: its closure would add any number to the place.
+    let doing = match part.next {
+        Some(n) => again(from + n),
+        None => Doing::Call,
+    };
     on(w, doing, part.bytes)
 }
 

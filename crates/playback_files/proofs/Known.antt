@@ -50,9 +50,6 @@ pub replayed : (form : Form) (file : File) (setup : Setup) (room : ℕ) (fs : Li
     → AllStepsTo form file room 0 (moment first fs words samples) e fs' us' samples'
     → EndsBegun e
     → Replayed form file setup room fs us samples text e fs' us' samples' text'
-replayed form file setup room fs us samples text (Ok done) fs' us' samples' text' first words text_then begun steps ends = record { first = first; words = words; text_then = text_then; begun = begun; steps = steps }
 replayed form file setup room fs us samples text (Err (NotReplayed.Refused n)) fs' us' samples' text' first words text_then begun steps ends = absurd ends
 replayed form file setup room fs us samples text (Err NotReplayed.NoRoom) fs' us' samples' text' first words text_then begun steps ends = absurd ends
-replayed form file setup room fs us samples text (Err NotReplayed.Unwritten) fs' us' samples' text' first words text_then begun steps ends = record { first = first; words = words; text_then = text_then; begun = begun; steps = steps }
-replayed form file setup room fs us samples text (Err (NotReplayed.Failed failure)) fs' us' samples' text' first words text_then begun steps ends = record { first = first; words = words; text_then = text_then; begun = begun; steps = steps }
-replayed form file setup room fs us samples text (Err NotReplayed.Changed) fs' us' samples' text' first words text_then begun steps ends = record { first = first; words = words; text_then = text_then; begun = begun; steps = steps }
+replayed form file setup room fs us samples text _ fs' us' samples' text' first words text_then begun steps ends = record { first = first; words = words; text_then = text_then; begun = begun; steps = steps }

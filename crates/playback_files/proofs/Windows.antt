@@ -6,16 +6,16 @@ use mathlib.Core.List.{List, ◌++◌}
 use native.Mathlib.Omega.{arith}
 use lib.ListN.{length}
 use lib.Ieee.{Float}
-use Rattle.std.specs.Prelude.{Some, None, Ok, Err}
-use borrow.Author.Tests.{ltb-false}
-use Rattle.model.proofs.BoolLaws.{clash}
+use Rattle.std.specs.Prelude.{Option, Some, None, Ok, Err}
+use Rattle.model.proofs.BoolLaws.{by_test}
 use Rattle.playback_parts.specs.declared.Form.{Form}
 use Rattle.playback_parts.specs.declared.Doing.{Doing}
 use Rattle.playback_parts.specs.declared.Playback.{Playback}
+use Rattle.playback_parts.specs.Doings.{makes_call}
 use Rattle.playback.specs.Chains.{Moment}
 use Rattle.playback_pieces.specs.declared.Gathered.{Gathered}
 use Rattle.playback_pieces.specs.declared.Stop.TheVariants as Stop
-use Rattle.playback_pieces.specs.Gathered.{call_before, moment}
+use Rattle.playback_pieces.specs.Gathered.{is_before, comes_before, moment}
 use Rattle.playback_windows.specs.Promises.{playback_from_start, moved_on}
 use Rattle.playback_windows.specs.Pieces.{moment_from_start, PiecesIn}
 use Rattle.playback_windows.proofs.ToTheEnd.{steps_behind}
@@ -23,15 +23,9 @@ use Rattle.playback_files.specs.declared.places.Playing.{Playing}
 use Rattle.playback_files.specs.declared.NotReplayed.{NotReplayed}
 use Rattle.playback_files.specs.Windows.{Ending, Went, ThroughIn, StepsOn, SameReplay, OverWhereDone, EndsBegun, WentBegun, Led, StepsTo}
 
--- a call that does not come before a place stands there or behind it
-call_behind : (d : Doing) (place until : ℕ) → call_before d place until ≡ false → until ≤ place
-call_behind Doing.Call place until not = ltb-false place until not
-call_behind (Doing.Samples from end) place until not = clash (cc)
-call_behind (Doing.Values from end) place until not = clash (cc)
-call_behind Doing.LineB place until not = clash (cc)
-call_behind Doing.LineI place until not = clash (cc)
-call_behind Doing.LineC place until not = clash (cc)
-call_behind Doing.Done place until not = clash (cc)
+-- what does not come before a place is a call that stands there or behind it
+call_behind : (w : Playback) (until : Option ℕ) → comes_before w until ≡ false → is_before w.place until ≡ false
+call_behind w until not = by_test (makes_call w.doing) (λ calls. rw calls at not) (λ no. let never = rw no at not in cc)
 
 module _ {form : Form} {window : List ℕ} {last : Bool} {m : Moment} {text : List ℕ} {r : Gathered} {fs : List Float} {us : List ℕ} {samples : List Float} {text' : List ℕ}
     (pieces : PiecesIn form window last m text r (moment r.playback fs us samples) text') where
@@ -39,7 +33,7 @@ module _ {form : Form} {window : List ℕ} {last : Bool} {m : Moment} {text : Li
   pieces_through w before =
       record {
         inside = omega (arith, pieces.inside, before);
-        next = λ far more. pieces.reach.behind more r.playback.place (call_behind r.playback.doing r.playback.place pieces.until (rw far at pieces.gathered.stopped));
+        next = λ far more. pieces.reach.behind more r.playback.place (call_behind r.playback pieces.until (rw far at pieces.gathered.stopped));
       }
 
   pub pieces_step_on : (base : ℕ) → StepsOn form window last base m base (moment r.playback fs us samples)
@@ -75,12 +69,9 @@ steps_lead_on form window last p t m (Err why) fs us samples steps same = λ who
 
 -- one that ends so has begun
 pub ends_begun : (e : Ending) (d : Doing) → OverWhereDone e d → EndsBegun e
-ends_begun (Ok done) d over = tt
 ends_begun (Err (NotReplayed.Refused n)) d over = over
 ends_begun (Err NotReplayed.NoRoom) d over = over
-ends_begun (Err NotReplayed.Unwritten) d over = tt
-ends_begun (Err (NotReplayed.Failed failure)) d over = tt
-ends_begun (Err NotReplayed.Changed) d over = tt
+ends_begun _ d over = tt
 
 pub went_begun : (p : Playing) (t : Gathered) (r : Went) → SameReplay p t r → WentBegun r
 went_begun p t (Ok (Some q)) same = tt

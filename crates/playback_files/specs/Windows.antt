@@ -62,9 +62,7 @@ abbrev pub OverWhereDone : Ending → Doing → Type 0
 OverWhereDone (Ok done) doing = doing ≡ Doing.Done
 OverWhereDone (Err (NotReplayed.Refused n)) doing = ⊥
 OverWhereDone (Err NotReplayed.NoRoom) doing = ⊥
-OverWhereDone (Err NotReplayed.Unwritten) doing = Unit {0}
-OverWhereDone (Err (NotReplayed.Failed failure)) doing = Unit {0}
-OverWhereDone (Err NotReplayed.Changed) doing = Unit {0}
+OverWhereDone _ doing = Unit {0}
 
 -- a replay that goes on is the same replay of the tape, with its place counted from where the next window begins
 abbrev pub SameReplay : Playing → Gathered → Went → Type 0
@@ -74,12 +72,9 @@ SameReplay p t (Err why) = OverWhereDone (Err why) t.playback.doing
 
 -- a replay that has begun ends as none does that has not
 abbrev pub EndsBegun : Ending → Type 0
-EndsBegun (Ok done) = Unit {0}
 EndsBegun (Err (NotReplayed.Refused n)) = ⊥
 EndsBegun (Err NotReplayed.NoRoom) = ⊥
-EndsBegun (Err NotReplayed.Unwritten) = Unit {0}
-EndsBegun (Err (NotReplayed.Failed failure)) = Unit {0}
-EndsBegun (Err NotReplayed.Changed) = Unit {0}
+EndsBegun _ = Unit {0}
 
 abbrev pub WentBegun : Went → Type 0
 WentBegun (Ok (Some q)) = Unit {0}

@@ -1,8 +1,8 @@
 // The replay of the tape in a file of any length, by windows of the file, to standard output. What a read leaves in memory, and what a
 // write does, has no definition: what is promised by one window is promised of every tape that it is a window of, and of the pieces that are
 // written. What is promised of all windows speaks of readings that there are, and not of those that were made, so it says little without
-// the promises by one. No public function asks anything of its caller. (What is lent goes in slice by slice, the window too, as in
-// `playback::stepping`.)
+// the promises by one. No public function asks anything of its caller. (What is lent to be changed goes in slice by slice, the memory for
+// a window too, as in `playback::stepping`.)
 #![tactic(auto)]
 
 pub mod places;
@@ -21,6 +21,7 @@ use playback_windows::{begin_in, moved_on, pieces_in};
 use progress::Progress;
 use tape::Setup;
 use tape_files::SHORTEST_WINDOW;
+use tape_windows::Window;
 
 // A file descriptor: the runtime's handle would be asked of each caller of `replay`.
 const STDOUT_FILENO: i32 = 1;
@@ -67,18 +68,17 @@ fn write_through(
     w: Playback,
     fs: &mut [f32],
     us: &mut [u32],
-    window: &[u8],
-    last: bool,
+    window: Window<'_>,
     samples: &mut [f32],
     text: &mut [u8],
     form: Form,
 ) -> Result<Gathered, NotReplayed>
-    ensures { Through form window.now last w fs.old us.old samples.old result fs.new us.new samples.new }
+    ensures { Through form window.entry.bytes.now window.entry.last w fs.old us.old samples.old result fs.new us.new samples.new }
 {
     let mut p = w;
     // No `while`: that no more comes is known only once a text is written.
     loop {
-        let gathered = pieces_in(p, fs, us, window, last, samples, text, form);
+        let gathered = pieces_in(p, fs, us, window, samples, text, form);
         if !io::write_all(STDOUT_FILENO, &text[..gathered.bytes]) {
             return Err(NotReplayed::Unwritten);
         }
@@ -92,24 +92,24 @@ fn write_through(
 
 // Where a replay goes on after a window of a file of so many bytes. (That a window has room for the longest call stays a fact, here
 // and below, as in `tape_files`.)
-fn went_by(p: Playing, t: Gathered, all: usize, window: &[u8], last: bool) -> Went
-    requires { (4 * p.base + length window.now ≤ all) × (last ≡ false → 65540 ≤ length window.now) × ThroughIn window.now last p.playback t }
+fn went_by(p: Playing, t: Gathered, all: usize, window: Window<'_>) -> Went
+    requires { (4 * p.base + length window.bytes.now ≤ all) × (window.last ≡ false → 65540 ≤ length window.bytes.now) × ThroughIn window.bytes.now window.last p.playback t }
     ensures { Gone all p.base result × SameReplay p t result }
 {
     let from = p.playback.place;
     let to = t.playback.place;
     if t.stop != Stop::Far {
-        progress::further(p.progress, window, from, to, all, all);
+        progress::further(p.progress, window.bytes, from, to, all, all);
         return match t.playback.doing {
             Doing::Done => Ok(None),
             _ => Err(NotReplayed::Changed),
         };
     }
-    if last {
+    if window.last {
         return Err(NotReplayed::Changed);
     }
     let base = p.base + to;
-    let progress = progress::further(p.progress, window, from, to, 4 * base, all);
+    let progress = progress::further(p.progress, window.bytes, from, to, 4 * base, all);
     let playback = moved_on(t.playback, to);
     Ok(Some(Playing {
         base,
@@ -122,19 +122,18 @@ fn went_by(p: Playing, t: Gathered, all: usize, window: &[u8], last: bool) -> We
 fn by_window(
     p: Playing,
     all: usize,
-    window: &[u8],
-    last: bool,
+    window: Window<'_>,
     fs: &mut [f32],
     us: &mut [u32],
     samples: &mut [f32],
     text: &mut [u8],
     form: Form,
 ) -> Went
-    requires { (4 * p.base + length window.now ≤ all) × (last ≡ false → 65540 ≤ length window.now) }
-    ensures { Gone all p.base result × StepsTo form window.now last p.base (moment p.playback fs.old us.old samples.old) result fs.new us.new samples.new × WentBegun result }
+    requires { (4 * p.base + length window.bytes.now ≤ all) × (window.last ≡ false → 65540 ≤ length window.bytes.now) }
+    ensures { Gone all p.base result × StepsTo form window.entry.bytes.now window.entry.last p.base (moment p.playback fs.old us.old samples.old) result fs.new us.new samples.new × WentBegun result }
 {
-    let t = write_through(p.playback, fs, us, window, last, samples, text, form)?;
-    went_by(p, t, all, window, last)
+    let t = write_through(p.playback, fs, us, window, samples, text, form)?;
+    went_by(p, t, all, window)
 }
 
 // Reads the next window, and goes through it.
@@ -154,8 +153,11 @@ fn next_window(
     // So it is known that the number of bytes, and with it the place of the window's first byte, fits.
     let all = file.bytes;
     let part = read_part(file, 4 * p.base, window)?;
-    let read = &window[..part.count];
-    by_window(p, all, read, part.last, fs, us, samples, text, form)
+    let read = Window {
+        bytes: &window[..part.count],
+        last: part.last,
+    };
+    by_window(p, all, read, fs, us, samples, text, form)
 }
 
 // All windows.

@@ -3,7 +3,7 @@ use Rattle.std.specs.Prelude.{ℕ, ◌<◌, ◌≡◌, List, length, Float, Resu
 use Rattle.model.specs.Receiver as Model
 use Rattle.model.specs.Receiver.{Call}
 use Rattle.model.specs.Questions.{set_up, opened, not_opened}
-use Rattle.model.specs.Replay.{refused_line}
+use Rattle.model.specs.Replay.{refused_line, bad_tape_line}
 use Rattle.model.proofs.TapeWalk.{CallsAt}
 use Rattle.receiver_state.specs.View.{state_of, lent_of}
 use Rattle.playback_parts.specs.declared.Form.{Form}
@@ -16,6 +16,11 @@ use Rattle.playback_opening.specs.declared.NotBegun.{NotBegun}
 -- a replay, or why it does not begin
 abbrev pub Beginning : Type 0
 Beginning = Result Playback NotBegun
+
+-- of a tape that is refused at a place
+abbrev pub RefusedAt : ℕ → List ℕ → NotBegun → List ℕ → Type 0
+RefusedAt place text NotBegun.NoRoom text' = (length text < 170) × (text' ≡ text)
+RefusedAt place text (NotBegun.Refused n) text' = TextPut (bad_tape_line place) text text' n
 
 -- a receiver was set up, and the first call comes next
 pub record SetUp (setup : Model.Setup) (fs : List Float) (us text : List ℕ) (w : Playback) (us' text' : List ℕ) : Type 0 where
@@ -33,7 +38,7 @@ pub record SetupRefused (setup : Model.Setup) (fs : List Float) (us text : List 
   pub words_kept : us' ≡ us
 
 abbrev pub SetupBegun : Model.Setup → List Float → List ℕ → List ℕ → Beginning → List ℕ → List ℕ → Type 0
-SetupBegun setup fs us text (Err NotBegun.NoRoom) us' text' = ⊥
+SetupBegun setup fs us text (Err NotBegun.NoRoom) us' text' = (length text < 170) × (us' ≡ us) × (text' ≡ text)
 SetupBegun setup fs us text (Err (NotBegun.Refused n)) us' text' = SetupRefused setup fs us text n us' text'
 SetupBegun setup fs us text (Ok w) us' text' = SetUp setup fs us text w us' text'
 

@@ -3,10 +3,10 @@ ghost use Rattle.model.specs.Replay.{replay_within};
 ghost use Rattle.receiver_state.specs.View.{lent_of};
 ghost use Rattle.playback_opening.specs.Beginnings.{BegunTo};
 
-use crate::{NotBegun, begin, put_bad_tape};
-use playback_parts::{PIECE, Playback};
+use crate::{NotBegun, begin, refuse};
+use playback_parts::Playback;
 
-// A longer tape is refused at the place behind its first 16,384 words. (The test of the text's room stands here for the reason at `begin`.)
+// A longer tape is refused at the place behind its first 16,384 words.
 pub fn begin_limited(
     fs: &[f32],
     us: &mut [u32],
@@ -15,11 +15,8 @@ pub fn begin_limited(
 ) -> Result<Playback, NotBegun>
     ensures { BegunTo (replay_within (lent_of fs.now us.old) 16384 tape.now) tape.now fs.now us.old text.old result us.new text.new }
 {
-    if text.len() < PIECE {
-        return Err(NotBegun::NoRoom);
-    }
     if 65536 < tape.len() {
-        return Err(NotBegun::Refused(put_bad_tape(text, 16384)));
+        return Err(refuse(text, 16384));
     }
     begin(fs, us, tape, text)
 }

@@ -1,7 +1,7 @@
 -- The stream's byte of a datagram. Assumes nothing.
 use Prim.Native.Nat.{ℕ, ◌<◌, ◌≤◌}
 use mathlib.Core.Path.{◌≡◌, refl, ap, ◌∙◌}
-use mathlib.Core.List.{List, [], ◌∷◌}
+use mathlib.Core.List.{List, ◌∷◌}
 use native.Mathlib.Omega.{arith}
 use lib.ListN.{length, get_or}
 use denote.Ref.{Bor}
@@ -19,19 +19,13 @@ use Rattle.receiver_state.specs.View.{row_place, stream_place}
 -- a datagram of under four bytes has none
 pub short_stream : (bytes : List ℕ) → length bytes < 4 → other_stream ≡ stream_in bytes
 unfolding stream_in header_fields stream_of big_endian
-short_stream [] few = refl
-short_stream (a ∷ []) few = refl
-short_stream (a ∷ b ∷ []) few = refl
-short_stream (a ∷ b ∷ c ∷ []) few = refl
 short_stream (a ∷ b ∷ c ∷ d ∷ bytes) few = absurd (omega (arith, few))
+short_stream _ few = refl
 
 pub stream_byte : (bytes : List ℕ) → 4 ≤ length bytes → stream_of (get_or bytes 3 0) ≡ stream_in bytes
 unfolding stream_in header_fields big_endian
-stream_byte [] long = absurd (omega (arith, long))
-stream_byte (a ∷ []) long = absurd (omega (arith, long))
-stream_byte (a ∷ b ∷ []) long = absurd (omega (arith, long))
-stream_byte (a ∷ b ∷ c ∷ []) long = absurd (omega (arith, long))
 stream_byte (a ∷ b ∷ c ∷ d ∷ bytes) long = ap stream_of (omega arith)
+stream_byte _ long = absurd (omega (arith, long))
 
 -- the stream by the fourth byte, where there is one
 pub stream_looked : (bytes : List ℕ) (t : Option (Bor ℕ)) (s : Framing.Stream)

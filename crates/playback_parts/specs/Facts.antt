@@ -18,13 +18,7 @@ use Rattle.playback_parts.specs.declared.facts.StreamFacts.{StreamFacts}
 -- where the values of a row stand that a call completes
 abbrev pub place_of : Sizing.Sizes → Call → ℕ
 place_of z (Model.datagram bytes) = stream_place z (stream_in bytes)
-place_of z (Model.play side n) = 0
-place_of z (Model.reset side) = 0
-place_of z (Model.set side x) = 0
-place_of z (Model.probe t1 t2 t3 t4) = 0
-place_of z (Model.one_way receive send) = 0
-place_of z (Model.depth n counts) = 0
-place_of z (Model.transmit_depth n) = 0
+place_of z _ = 0
 
 -- sizes that question 1 refuses have no places
 pub record StreamFound (z : Sizing.Sizes) (s : Stream) (v : StreamFacts) : Type 0 where

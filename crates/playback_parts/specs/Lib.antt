@@ -1,3 +1,4 @@
+pub mod Doings
 pub mod Facts
 pub mod Parts
 pub mod Forms

@@ -9,6 +9,7 @@ use calls::Side;
 use receiver_state::report::{Report, SoundReport};
 
 // A channel's line.
+#[tactic(auto, unfolding(model::specs::Replay::channel_line))]
 pub fn put_sound(text: &mut [u8], side: Side, s: SoundReport) -> usize
     requires { 170 ≤ length text.old }
     ensures { TextPut (channel_line (model_side side) (counters_in s)) text.old text.new result }
@@ -52,6 +53,7 @@ pub fn put_incoming(text: &mut [u8], r: Report) -> usize
 }
 
 // The clock's line.
+#[tactic(auto, unfolding(lines::specs::Lines::clock_text))]
 pub fn put_times(text: &mut [u8], r: Report) -> usize
     requires { 170 ≤ length text.old }
     ensures { TextPut (line 67 (clock_words r)) text.old text.new result }

@@ -70,32 +70,24 @@ fn call_facts(z: Sizes, tape: &[u8], placed: Placed) -> Facts
     requires { CallInside tape.now placed.call }
     ensures { CallFacts (sizes_of z) (model_call tape.now placed.call) placed.next result }
 {
-    let next = placed.next;
+    let plain = of_clock(placed.next);
     match placed.call {
         Call::Datagram { at, len } => {
             let stream = stream_in(&tape[at..at + len]);
             let known = stream_facts(z, stream);
             Facts {
                 side: known.side,
-                next,
-                samples: 0,
                 row: known.row,
+                ..plain
             }
         }
         Call::Play { side, samples } => Facts {
             side,
-            next,
             samples: samples as usize,
-            row: 0,
+            ..plain
         },
-        Call::Reset { side } | Call::Set { side, settings: _ } => Facts {
-            side,
-            next,
-            samples: 0,
-            row: 0,
-        },
-        Call::Probe(_) | Call::OneWay { .. } | Call::Depth { .. } | Call::TransmitDepth { .. } =>
-            of_clock(next),
+        Call::Reset { side } | Call::Set { side, .. } => Facts { side, ..plain },
+        Call::Probe(_) | Call::OneWay(_) | Call::Depth { .. } | Call::TransmitDepth { .. } => plain,
     }
 }
 

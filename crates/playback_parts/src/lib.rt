@@ -6,6 +6,9 @@ pub mod closing;
 pub mod facts;
 pub mod parts;
 
+ghost use Rattle.std.specs.Prelude.{◌≡◌};
+ghost use Rattle.playback_parts.specs.Doings.{makes_call};
+
 use receiver_state::Receiver;
 
 // No piece is longer. That a text has room for one stays in the contracts: a type with that fact would hold a `&mut`, and each
@@ -35,6 +38,15 @@ pub enum Doing {
     LineI,
     LineC,
     Done,
+}
+
+impl Doing {
+    // Whether a call comes next, or the tape's end.
+    pub fn is_call(self) -> bool
+        ensures { result ≡ makes_call self }
+    {
+        matches!(self, Doing::Call)
+    }
 }
 
 // Where a replay is: the receiver, the tape's next place, and what is printed next.

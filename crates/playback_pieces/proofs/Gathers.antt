@@ -5,14 +5,15 @@ use mathlib.Core.Bool.{true}
 use mathlib.Core.List.{List, [], ◌++◌, append_assoc, append-nil}
 use native.Mathlib.Omega.{arith}
 use lib.ListN.{length, take, drop, length-append, length-drop, take-append-drop}
-use lib.Seq.{take_all, take_at, drop_at, drop-drop, drop-length}
+use lib.Seq.{take_all, drop_at, drop-drop, drop-length}
 use lib.Ieee.{Float}
-use Rattle.std.specs.Prelude.{Some, None, Ok, Err}
+use Rattle.std.specs.Prelude.{Option, Some, None, Ok, Err}
 use Rattle.std.specs.Result.{result_ok}
 use borrow.Rule.Slice.PartMut.{put_mid, post_of}
 use Rattle.model.specs.Bytes.{placed}
 use Rattle.playback_parts.specs.declared.Form.{Form}
 use Rattle.playback_parts.specs.Parts.{TextPut}
+use Rattle.playback_parts.proofs.Texts.{put_front, put_inside}
 use Rattle.playback.specs.declared.Wrote.{Wrote}
 use Rattle.playback.specs.declared.StepError.{StepError}
 use Rattle.playback.specs.Steps.{Step, DoneAs}
@@ -23,7 +24,7 @@ use Rattle.playback_pieces.specs.Gathered.{comes_before, StepsBefore, here, wrot
 -- ---- the steps
 
 -- one at the end
-steps_and_one : (form : Form) (until : ℕ) (tape : List ℕ) {m n k : Moment} {printed text text' : List ℕ} {v : Wrote} → StepsBefore form until tape m printed n
+steps_and_one : (form : Form) (until : Option ℕ) (tape : List ℕ) {m n k : Moment} {printed text text' : List ℕ} {v : Wrote} → StepsBefore form until tape m printed n
     → comes_before n.playback until ≡ true
     → WroteAs form tape n text v k text'
     → k.playback ≡ v.playback
@@ -33,7 +34,7 @@ steps_and_one form until tape {text' = text'} {v = v} (wrote {text' = first} {pr
     rw (append_assoc (take u.bytes first) rest (take v.bytes text')) (wrote b s e (steps_and_one form until tape steps before step same))
 
 -- however far they may go, they are the steps of a replay
-pub steps_before_are_steps : {form : Form} {until : ℕ} {tape : List ℕ} {m n : Moment} {printed : List ℕ} → StepsBefore form until tape m printed n → StepsAs form tape m printed n
+pub steps_before_are_steps : {form : Form} {until : Option ℕ} {tape : List ℕ} {m n : Moment} {printed : List ℕ} → StepsBefore form until tape m printed n → StepsAs form tape m printed n
 steps_before_are_steps here = Chains.here
 steps_before_are_steps (wrote before step same steps) = Chains.wrote step same (steps_before_are_steps steps)
 
@@ -46,10 +47,6 @@ steps_and_then {second = second} (Chains.wrote {text' = text'} {printed = rest} 
 
 -- ---- the text
 
-put_front : (piece entry exit : List ℕ) (n : ℕ) → TextPut piece entry exit n → take n exit ≡ piece
-unfolding placed
-put_front piece entry exit n put = rw (put.target, put.length_is) (take_at piece _ (length piece) refl)
-
 put_rest : (piece entry exit : List ℕ) (n : ℕ) → TextPut piece entry exit n → drop n exit ≡ drop n entry
 unfolding placed
 put_rest piece entry exit n put =
@@ -59,13 +56,6 @@ put_rest piece entry exit n put =
 put_nothing : (text : List ℕ) → TextPut [] text text 0
 unfolding placed
 put_nothing text = record { length_is = refl; target = refl }
-
--- the bytes of a piece lie inside the text
-inside_text : (piece entry exit : List ℕ) (n : ℕ) → TextPut piece entry exit n → length exit ≡ length entry → n ≤ length entry
-unfolding placed
-inside_text piece entry exit n put same =
-    let long = length-append piece (drop (0 + length piece) entry) in
-    omega (arith, ap length put.target, long, same, put.length_is)
 
 -- a piece behind another
 put_behind : (first second text text' text'' behind : List ℕ) (n k : ℕ) → TextPut first text text' n → TextPut second (drop n text') behind k → text'' ≡ take n text' ++ behind
@@ -105,9 +95,9 @@ module _ (form : Form) (tape : List ℕ) (p : Wrote) (fs : List Float) (us : Lis
   pub wrote_inside : length behind ≡ length (take (length text - p.bytes) (drop p.bytes text)) → p.bytes ≤ length text → (v : Wrote) → EndStepped (Ok (Some v))
       → p.bytes + v.bytes ≤ length text
   wrote_inside as_long inside v done =
-      let fits = inside_text done.piece _ behind v.bytes done.put as_long in
+      let fits = put_inside done.piece _ behind v.bytes done.put in
       let long : length (take (length text - p.bytes) (drop p.bytes text)) ≡ length text - p.bytes = rw (lent_end p.bytes text) (length-drop p.bytes text) in
-      omega (arith, fits, long)
+      omega (arith, fits, as_long, long)
 
   kept : behind ≡ take (length text - p.bytes) (drop p.bytes text) → back ≡ text
   kept same = end_back p.bytes text behind ∙ rw (same, lent_end p.bytes text) (take-append-drop p.bytes text)
@@ -140,7 +130,7 @@ step_quiet (Err why) never = tt
 
 -- ---- both together
 
-pub gathers_nothing : (form : Form) (tape : List ℕ) (until : ℕ) (m : Moment) (text : List ℕ) → Gathering form tape until m text m 0 text
+pub gathers_nothing : (form : Form) (tape : List ℕ) (until : Option ℕ) (m : Moment) (text : List ℕ) → Gathering form tape until m text m 0 text
 gathers_nothing form tape until m text =
     record {
       printed = [];
@@ -154,7 +144,7 @@ gathers_nothing form tape until m text =
       less = λ some. absurd (omega arith);
     }
 
-module _ (form : Form) (tape : List ℕ) (until : ℕ) (m : Moment) (text : List ℕ) (p : Wrote) (fs : List Float) (us : List ℕ) (samples : List Float) (text' : List ℕ) where
+module _ (form : Form) (tape : List ℕ) (until : Option ℕ) (m : Moment) (text : List ℕ) (p : Wrote) (fs : List Float) (us : List ℕ) (samples : List Float) (text' : List ℕ) where
   abbrev there : Moment
   there = moment p.playback fs us samples
 
@@ -174,7 +164,7 @@ module _ (form : Form) (tape : List ℕ) (until : ℕ) (m : Moment) (text : List
       record {
         printed = g.printed ++ take w.wrote.bytes w.behind;
         put = put;
-        inside = inside_text _ text text'' q.bytes put as_long;
+        inside = omega (arith, put_inside _ text text'' q.bytes put, as_long);
         steps = steps_and_one form until tape g.steps before s w.playback_is;
         float_length = s.float_length ∙ g.float_length;
         word_length = s.word_length ∙ g.word_length;

@@ -1,8 +1,8 @@
 -- Steps one after the other whose pieces stand one behind the other at the front of a text. Assumes nothing.
-use Rattle.std.specs.Prelude.{ℕ, ◌+◌, ◌≤◌, ◌<◌, ◌≡◌, Bool, true, false, List, [], ◌++◌, length, take, drop, ltb, Float, Option, Some, None, Ok, Err}
+use Rattle.std.specs.Prelude.{ℕ, ◌+◌, ◌≤◌, ◌<◌, ◌≡◌, Bool, true, false, cond, List, [], ◌++◌, length, take, drop, ltb, Float, Option, Some, None, Ok, Err}
 use Rattle.playback_parts.specs.declared.Form.{Form}
-use Rattle.playback_parts.specs.declared.Doing.{Doing}
 use Rattle.playback_parts.specs.declared.Playback.{Playback}
+use Rattle.playback_parts.specs.Doings.{makes_call}
 use Rattle.playback_parts.specs.Parts.{TextPut}
 use Rattle.playback.specs.declared.Wrote.{Wrote}
 use Rattle.playback.specs.Steps.{steps_left, WrittenAs, Step, DoneAs}
@@ -12,21 +12,17 @@ use Rattle.playback_pieces.specs.declared.Gathered.{Gathered}
 
 -- ---- how far the steps may go
 
-abbrev pub call_before : Doing → ℕ → ℕ → Bool
-call_before Doing.Call place until = ltb place until
-call_before (Doing.Samples from end) place until = true
-call_before (Doing.Values from end) place until = true
-call_before Doing.LineB place until = true
-call_before Doing.LineI place until = true
-call_before Doing.LineC place until = true
-call_before Doing.Done place until = true
+-- a place before another, where one is named
+abbrev pub is_before : ℕ → Option ℕ → Bool
+is_before place None = true
+is_before place (Some until) = ltb place until
 
 -- what is printed next is no call, or a call before a place
-abbrev pub comes_before : Playback → ℕ → Bool
-comes_before w until = call_before w.doing w.place until
+abbrev pub comes_before : Playback → Option ℕ → Bool
+comes_before w until = cond (makes_call w.doing) (is_before w.place until) true
 
 -- the bytes that the steps wrote from one moment to another, with no call at the place `until` or behind it
-pub data StepsBefore (form : Form) (until : ℕ) (tape : List ℕ) : Moment → List ℕ → Moment → Type 0 where
+pub data StepsBefore (form : Form) (until : Option ℕ) (tape : List ℕ) : Moment → List ℕ → Moment → Type 0 where
   here : {m : Moment} → StepsBefore form until tape m [] m
   wrote : {m n last : Moment} {text text' printed : List ℕ} {v : Wrote}
       → comes_before m.playback until ≡ true
@@ -74,13 +70,13 @@ Further form tape p fs us samples text None fs' us' samples' text' =
 -- ---- all of them
 
 -- why no further step was made
-abbrev pub StoppedBy : Form → List ℕ → ℕ → Moment → ℕ → List ℕ → Stop → Type 0
+abbrev pub StoppedBy : Form → List ℕ → Option ℕ → Moment → ℕ → List ℕ → Stop → Type 0
 StoppedBy form tape until m bytes text Stop.Full = length text < bytes + 170
 StoppedBy form tape until m bytes text Stop.Far = comes_before m.playback until ≡ false
 StoppedBy form tape until m bytes text Stop.Ended = EndsHere form tape m (drop bytes text) × (bytes + 170 ≤ length text)
 
 -- what stands at the front of the text is what the steps wrote, one after the other
-pub record Gathering (form : Form) (tape : List ℕ) (until : ℕ) (m : Moment) (text : List ℕ) (n : Moment) (bytes : ℕ) (text' : List ℕ) : Type 0 where
+pub record Gathering (form : Form) (tape : List ℕ) (until : Option ℕ) (m : Moment) (text : List ℕ) (n : Moment) (bytes : ℕ) (text' : List ℕ) : Type 0 where
   pub printed : List ℕ
   pub put : TextPut printed text text' bytes
   pub inside : bytes ≤ length text
@@ -92,6 +88,6 @@ pub record Gathering (form : Form) (tape : List ℕ) (until : ℕ) (m : Moment) 
   -- where something was written, fewer steps are left
   pub less : 0 < bytes → steps_left tape n.playback n.floats n.samples < steps_left tape m.playback m.floats m.samples
 
-pub record AllGathered (form : Form) (tape : List ℕ) (until : ℕ) (m : Moment) (text : List ℕ) (r : Gathered) (n : Moment) (text' : List ℕ) : Type 0 where
+pub record AllGathered (form : Form) (tape : List ℕ) (until : Option ℕ) (m : Moment) (text : List ℕ) (r : Gathered) (n : Moment) (text' : List ℕ) : Type 0 where
   pub gathering : Gathering form tape until m text n r.bytes text'
   pub stopped : StoppedBy form tape until n r.bytes text' r.stop

@@ -7,7 +7,7 @@ ghost use Rattle.playback_pieces.specs.Gathered.{comes_before, moment, Further, 
 
 use playback::Wrote;
 use playback::stepping::step_as;
-use playback_parts::{Doing, Form, PIECE, Playback};
+use playback_parts::{Form, PIECE, Playback};
 
 // Why no further step was made. (No Result: none of the three is a failure, and callers go on from two of them.)
 #[derive(Clone, Copy, PartialEq, Eq, Debug)]
@@ -28,14 +28,11 @@ pub struct Gathered {
     pub stop: Stop,
 }
 
-// Whether what is printed next is no call, or a call before the place `until`.
-fn comes_before(w: Playback, until: usize) -> bool
+// Whether what is printed next is no call, or a call before the place `until`, where one is named.
+fn comes_before(w: Playback, until: Option<usize>) -> bool
     ensures { result ≡ comes_before w until }
 {
-    match w.doing {
-        Doing::Call => w.place < until,
-        _ => true,
-    }
+    !w.doing.is_call() || until.is_none_or(|u| w.place < u)
 }
 
 // One step, whose piece stands behind the bytes that are there; none where it writes nothing.
@@ -69,13 +66,13 @@ fn stopped(p: Wrote, stop: Stop) -> Gathered
     }
 }
 
-// Steps with no call at the place `until` or behind it, until the text has no room for a piece or a step writes nothing.
+// Steps with no call at the place `until` or behind it, where one is named, until the text has no room for a piece or a step writes nothing.
 pub fn pieces(
     w: Playback,
     fs: &mut [f32],
     us: &mut [u32],
     tape: &[u8],
-    until: usize,
+    until: Option<usize>,
     samples: &mut [f32],
     text: &mut [u8],
     form: Form,

@@ -5,12 +5,12 @@ use mathlib.Core.Path.{◌≡◌, sym}
 use mathlib.Core.Bool.{Bool}
 use mathlib.Core.List.{List}
 use native.Mathlib.Omega.{arith}
-use Rattle.std.specs.Prelude.{Some, None, Ok, Err}
+use Rattle.std.specs.Prelude.{Some, Ok, Err}
 use lib.ListN.{length}
 use lib.Seq.{take-length}
 use lib.Ieee.{Float}
 use Rattle.model.specs.Tape as Tape
-use Rattle.model.specs.Tape.{call_at, found_call, found_end, found_bad}
+use Rattle.model.specs.Tape.{call_at, found_call}
 use Rattle.tape_windows.specs.Windows.{WindowOf}
 use Rattle.tape_windows.specs.Promises.{PlacesInside}
 use Rattle.tape_windows.proofs.CheckLaws.{places_inside}
@@ -26,25 +26,16 @@ use Rattle.playback_windows.specs.Promises.{playback_from_start, StaysInside, St
 
 next_inside : (window : List ℕ) (place : ℕ) (d : Doing) (f : Tape.Found) → PlacesInside window place f → 4 * place_next d f place ≤ max (4 * place) (length window)
 next_inside window place Doing.Call (found_call c next) inside = omega (arith, inside.1)
-next_inside window place Doing.Call found_end inside = omega arith
-next_inside window place Doing.Call (found_bad n) inside = omega arith
-next_inside window place (Doing.Samples from end) f inside = omega arith
-next_inside window place (Doing.Values from end) f inside = omega arith
-next_inside window place Doing.LineB f inside = omega arith
-next_inside window place Doing.LineI f inside = omega arith
-next_inside window place Doing.LineC f inside = omega arith
-next_inside window place Doing.Done f inside = omega arith
+next_inside window place _ _ inside = omega arith
 
 module _ (form : Form) (window : List ℕ) (w : Playback) (fs : List Float) (us : List ℕ) (samples : List Float) (text : List ℕ) (fs' : List Float) (us' : List ℕ) (samples' : List Float) (text' : List ℕ) where
   pub step_stays_inside : (v : Step) → DoneAs form window w fs us samples text v fs' us' samples' text' → StaysInside window w.place v
   step_stays_inside (Ok (Some v)) done = rw done.next_place (next_inside window w.place w.doing (call_at window w.place) (places_inside window w.place))
-  step_stays_inside (Err StepError.NoRoom) done = tt
-  step_stays_inside (Err StepError.NotHeld) done = tt
   step_stays_inside (Err (StepError.Bad bad)) done = inside_there (places_inside window w.place)
     where
       inside_there : PlacesInside window w.place (call_at window w.place) → 4 * bad.place ≤ length window
       inside_there inside = rw done.1 at inside
-  step_stays_inside (Ok None) done = tt
+  step_stays_inside _ done = tt
 
   -- ---- fewer steps are left of the window
 

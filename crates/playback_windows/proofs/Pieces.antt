@@ -4,17 +4,15 @@ use mathlib.Core.Path.{◌≡◌, refl, ap}
 use mathlib.Core.Bool.{Bool, true, false}
 use mathlib.Core.List.{List}
 use native.Mathlib.Omega.{arith}
-use Rattle.std.specs.Prelude.{Some, Ok}
+use Rattle.std.specs.Prelude.{Option, Some, None, Ok}
 use lib.ListN.{length}
-use borrow.Author.Tests.{ltb-true, le-leb}
-use Rattle.model.proofs.BoolLaws.{clash}
+use borrow.Author.Tests.{ltb-true, ltb-false, le-leb}
 use Rattle.tape_windows.specs.Windows.{WindowOf, longest_call, reaches}
 use Rattle.playback_parts.specs.declared.Form.{Form}
-use Rattle.playback_parts.specs.declared.Doing.{Doing}
 use Rattle.playback_parts.specs.declared.Playback.{Playback}
-use Rattle.playback.specs.Steps.{makes_call}
+use Rattle.playback_parts.specs.Doings.{makes_call}
 use Rattle.playback.specs.Chains.{Moment}
-use Rattle.playback_pieces.specs.Gathered.{call_before, comes_before, StepsBefore, here, wrote}
+use Rattle.playback_pieces.specs.Gathered.{comes_before, StepsBefore, here, wrote}
 use Rattle.playback_windows.specs.Promises.{playback_from_start, wrote_from_start}
 use Rattle.playback_windows.specs.Through.{WroteBy, StepsBy, start, on}
 use Rattle.playback_windows.specs.Pieces.{ReachOf, moment_from_start}
@@ -23,34 +21,24 @@ use Rattle.playback_windows.proofs.Moving.{step_stays_inside}
 
 -- ---- how far a window reaches
 
-pub reach_of_the_last : (window : List ℕ) (r : ℕ) → ReachOf window true r
+pub reach_of_the_last : (window : List ℕ) → ReachOf window true None
 unfolding reaches
-reach_of_the_last window r = record { before = λ place less. refl; behind = λ no place from. clash (cc) }
+reach_of_the_last window = record { before = λ place less. refl; behind = λ no place from. cc }
 
 -- by its number of whole words
-pub reach_by_words : (window : List ℕ) (words r : ℕ) → 4 * words ≤ length window → length window < 4 * words + 4 → r ≡ words - 16384 → ReachOf window false r
+pub reach_by_words : (window : List ℕ) (words r : ℕ) → 4 * words ≤ length window → length window < 4 * words + 4 → r ≡ words - 16384 → ReachOf window false (Some r)
 unfolding reaches
 reach_by_words window words r fits rest is =
     record {
-      before = λ place less. le-leb (4 * (place + longest_call)) (length window) (omega (arith, fits, is, less));
-      behind = λ more place from. record { more = refl; short = omega (arith, rest, is, from) };
+      before = λ place less. le-leb (4 * (place + longest_call)) (length window) (omega (arith, fits, is, ltb-true place r less));
+      behind = λ more place from. record { more = refl; short = omega (arith, rest, is, ltb-false place r from) };
     }
 
 -- ---- the steps
 
--- a call that comes before a place
-call_before_law : (d : Doing) (place until : ℕ) → makes_call d ≡ true → call_before d place until ≡ true → place < until
-call_before_law Doing.Call place until calls before = ltb-true place until before
-call_before_law (Doing.Samples from end) place until calls before = clash (cc)
-call_before_law (Doing.Values from end) place until calls before = clash (cc)
-call_before_law Doing.LineB place until calls before = clash (cc)
-call_before_law Doing.LineI place until calls before = clash (cc)
-call_before_law Doing.LineC place until calls before = clash (cc)
-call_before_law Doing.Done place until calls before = clash (cc)
-
-module _ {window : List ℕ} {last : Bool} {until : ℕ} (reach : ReachOf window last until) where
+module _ {window : List ℕ} {last : Bool} {until : Option ℕ} (reach : ReachOf window last until) where
   far : (w : Playback) → comes_before w until ≡ true → makes_call w.doing ≡ true → reaches window (w.place + longest_call) last ≡ true
-  far w before calls = reach.before w.place (call_before_law w.doing w.place until calls before)
+  far w before calls = reach.before w.place (rw calls at before)
 
   pub steps_by_windows : {form : Form} {whole : List ℕ} {base : ℕ} → WindowOf whole base window last → {m n : Moment} {printed : List ℕ} → StepsBefore form until window m printed n
       → StepsBy form whole (moment_from_start base m) printed (moment_from_start base n)
@@ -73,7 +61,7 @@ module _ {window : List ℕ} {last : Bool} {until : ℕ} (reach : ReachOf window
           }
 
 -- the place stays inside the window
-pub steps_stay_inside : {form : Form} {until : ℕ} {window : List ℕ} {m n : Moment} {printed : List ℕ} → StepsBefore form until window m printed n
+pub steps_stay_inside : {form : Form} {until : Option ℕ} {window : List ℕ} {m n : Moment} {printed : List ℕ} → StepsBefore form until window m printed n
     → 4 * n.playback.place ≤ max (4 * m.playback.place) (length window)
 steps_stay_inside here = omega arith
 steps_stay_inside {form} {window = window} (wrote {m = m} {n = n} {text = text} {text' = text'} {v = v} before step same steps) =

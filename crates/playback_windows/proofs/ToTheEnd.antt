@@ -9,9 +9,8 @@ use native.Mathlib.Omega.{arith}
 use lib.ListN.{take}
 use lib.Ieee.{Float}
 use Rattle.model.specs.Tape.{read}
-use Rattle.model.proofs.BoolLaws.{clash}
 use Rattle.tape.specs.declared.Setup.{Setup}
-use Rattle.std.specs.Prelude.{Option, Some, None, Ok, Err}
+use Rattle.std.specs.Prelude.{Option, Some, None, Ok}
 use Rattle.tape.specs.Answers.{setup_answer}
 use Rattle.tape_windows.specs.Windows.{longest_call, reaches}
 use Rattle.tape_windows.specs.Through.{WindowAt}
@@ -21,7 +20,8 @@ use Rattle.playback_parts.specs.declared.Doing.{Doing}
 use Rattle.playback_parts.specs.declared.Playback.{Playback}
 use Rattle.playback_parts.specs.Forms.{printed_over}
 use Rattle.playback.specs.declared.Wrote.{Wrote}
-use Rattle.playback.specs.Steps.{makes_call, room_for, Step, steps_left}
+use Rattle.playback.specs.Steps.{room_for, Step, steps_left}
+use Rattle.playback_parts.specs.Doings.{makes_call}
 use Rattle.playback.specs.Chains.{Moment}
 use Rattle.playback_windows.specs.Promises.{wrote_from_start, BegunIn}
 use Rattle.playback_windows.specs.Through.{SteppedBy, WroteBy, StepsBy, start, on}
@@ -35,13 +35,8 @@ steps_behind start others = others
 steps_behind {more = more} (on {text' = text'} {printed = printed} {v = v} w behind steps) others = rw (append_assoc (take v.bytes text') printed more) (on w behind (steps_behind steps others))
 
 is_done : (d : Doing) → (d ≡ Doing.Done) ⊎ (d ≡ Doing.Done → ⊥)
-is_done Doing.Call = inr (λ e. clash (cc))
-is_done (Doing.Samples from end) = inr (λ e. clash (cc))
-is_done (Doing.Values from end) = inr (λ e. clash (cc))
-is_done Doing.LineB = inr (λ e. clash (cc))
-is_done Doing.LineI = inr (λ e. clash (cc))
-is_done Doing.LineC = inr (λ e. clash (cc))
 is_done Doing.Done = inl refl
+is_done _ = inr (λ e. cc)
 
 -- what a moment's next step finds, and what `step_in` answers
 pub record Provided (form : Form) (whole : List ℕ) (m : Moment) : Type 0 where
@@ -80,8 +75,7 @@ module _ (form : Form) (whole : List ℕ) (s : Setup) (front : Ok s ≡ setup_an
         let link : WroteBy form whole m bytes v n bytes' = record { at = at; answer = a; answered = answered; is = refl } in
         further (printed ++ (take v.bytes bytes' ++ [])) n (steps_behind steps (on link refl start)) (wrote_stands form whole link).less
     next m printed steps (Some (Ok None)) at bytes after bytes' is answered further = absurd is
-    next m printed steps (Some (Err why)) at bytes after bytes' is answered further = absurd is
-    next m printed steps None at bytes after bytes' is answered further = absurd is
+    next m printed steps _ at bytes after bytes' is answered further = absurd is
 
     ends_from : (k : ℕ) (printed : List ℕ) (m : Moment) → StepsBy form whole first printed m → left_at m < k → Ended
     ends_from zero printed m steps few = absurd (omega (arith, few))

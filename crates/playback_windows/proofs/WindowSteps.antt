@@ -12,7 +12,6 @@ use lib.Ieee.{Float}
 use Rattle.model.specs.Receiver.{Call}
 use Rattle.model.specs.Tape as Tape
 use Rattle.model.specs.Tape.{words_of, call_at, found_call, found_end, found_bad, from_start}
-use Rattle.model.proofs.BoolLaws.{clash}
 use Rattle.model.proofs.BytesLaws.{length_words_of}
 use Rattle.tape_windows.specs.Windows.{WindowOf, longest_call, reaches}
 use Rattle.tape_windows.proofs.WindowLaws.{window_has_the_call}
@@ -22,7 +21,8 @@ use Rattle.playback_parts.specs.declared.Doing.{Doing}
 use Rattle.playback_parts.specs.declared.Playback.{Playback}
 use Rattle.playback.specs.declared.Wrote.{Wrote}
 use Rattle.playback.specs.declared.StepError.{StepError}
-use Rattle.playback.specs.Steps.{remaining_of, makes_call, asked_next, asked_in, calls_now, place_next, stage, steps_left, CallDone, WrittenAs, Step, DoneAs}
+use Rattle.playback.specs.Steps.{remaining_of, asked_next, asked_in, calls_now, place_next, stage, steps_left, CallDone, WrittenAs, Step, DoneAs}
+use Rattle.playback_parts.specs.Doings.{makes_call}
 use Rattle.playback_windows.specs.Promises.{playback_from_start, wrote_from_start, step_from_start}
 
 -- ---- what a step asks of what stands at its place
@@ -31,20 +31,17 @@ module _ (base : ℕ) where
   call_is_moved : (f : Tape.Found) (cs : List Call) → calls_now Doing.Call (from_start base f) cs ≡ calls_now Doing.Call f cs
   unfolding from_start
   call_is_moved (found_call c next) cs = refl
-  call_is_moved found_end cs = refl
-  call_is_moved (found_bad n) cs = refl
+  call_is_moved _ cs = refl
 
   place_is_moved : (f : Tape.Found) (p : ℕ) → place_next Doing.Call (from_start base f) (base + p) ≡ base + place_next Doing.Call f p
   unfolding from_start
   place_is_moved (found_call c next) p = refl
-  place_is_moved found_end p = refl
-  place_is_moved (found_bad n) p = refl
+  place_is_moved _ p = refl
 
   asked_is_moved : (f : Tape.Found) → asked_in (from_start base f) ≡ asked_in f
   unfolding from_start
   asked_is_moved (found_call c next) = refl
-  asked_is_moved found_end = refl
-  asked_is_moved (found_bad n) = refl
+  asked_is_moved _ = refl
 
   module _ (f g : Tape.Found) where
     -- where a call is made, what stands in the tape is what stands in the window
@@ -53,37 +50,22 @@ module _ (base : ℕ) where
 
     calls_alike : (d : Doing) (cs : List Call) → Alike d → calls_now d g cs ≡ calls_now d f cs
     calls_alike Doing.Call cs alike = rw (alike refl) (call_is_moved f cs)
-    calls_alike (Doing.Samples from end) cs alike = refl
-    calls_alike (Doing.Values from end) cs alike = refl
-    calls_alike Doing.LineB cs alike = refl
-    calls_alike Doing.LineI cs alike = refl
-    calls_alike Doing.LineC cs alike = refl
-    calls_alike Doing.Done cs alike = refl
+    calls_alike _ cs alike = refl
 
     place_alike : (d : Doing) (p : ℕ) → Alike d → place_next d g (base + p) ≡ base + place_next d f p
     place_alike Doing.Call p alike = rw (alike refl) (place_is_moved f p)
-    place_alike (Doing.Samples from end) p alike = refl
-    place_alike (Doing.Values from end) p alike = refl
-    place_alike Doing.LineB p alike = refl
-    place_alike Doing.LineI p alike = refl
-    place_alike Doing.LineC p alike = refl
-    place_alike Doing.Done p alike = refl
+    place_alike _ p alike = refl
 
     asked_alike : (d : Doing) → Alike d → asked_next d g ≡ asked_next d f
     asked_alike Doing.Call alike = rw (alike refl) (asked_is_moved f)
-    asked_alike (Doing.Samples from end) alike = refl
-    asked_alike (Doing.Values from end) alike = refl
-    asked_alike Doing.LineB alike = refl
-    asked_alike Doing.LineI alike = refl
-    asked_alike Doing.LineC alike = refl
-    asked_alike Doing.Done alike = refl
+    asked_alike _ alike = refl
 
 -- the call of the tape is the window's
 call_of_law : (base : ℕ) (f : Tape.Found) (c : Call) (next : ℕ) → from_start base f ≡ found_call c next → (n : ℕ) × (f ≡ found_call c n)
 unfolding from_start
 call_of_law base (found_call d n) c next is = let same : d ≡ c = cc in (n, rw same)
-call_of_law base found_end c next is = clash (cc)
-call_of_law base (found_bad n) c next is = clash (cc)
+call_of_law base found_end c next is = cc
+call_of_law base (found_bad n) c next is = cc
 
 -- ---- fewer steps are left of the tape too
 
@@ -116,14 +98,7 @@ module _ {whole : List ℕ} {base : ℕ} {window : List ℕ} {last : Bool} (win 
 
   moves : (d : Doing) (f : Tape.Found) → here ≡ f → Moves (place_next d f w.place)
   moves Doing.Call (found_call c next) is = let inside = rw is at (places_inside window w.place) in goes inside.0 (omega (arith, inside.1, length_words_of window))
-  moves Doing.Call found_end is = stays refl
-  moves Doing.Call (found_bad n) is = stays refl
-  moves (Doing.Samples from end) f is = stays refl
-  moves (Doing.Values from end) f is = stays refl
-  moves Doing.LineB f is = stays refl
-  moves Doing.LineI f is = stays refl
-  moves Doing.LineC f is = stays refl
-  moves Doing.Done f is = stays refl
+  moves _ _ is = stays refl
 
   -- the words of the tape are those before the window, its own and those behind it
   words_behind : (more : ℕ) × (length (words_of whole) ≡ base + (length (words_of window) + more))

@@ -10,7 +10,6 @@ use lib.Ieee.{Float}
 use Rattle.model.specs.Tape.{read}
 use Rattle.model.specs.Replay.{replay_over}
 use Rattle.model.specs.Summary.{summary_over}
-use Rattle.model.proofs.BoolLaws.{clash}
 use Rattle.tape.specs.declared.Setup.{Setup}
 use Rattle.std.specs.Prelude.{Option, Some, None, Ok, Err}
 use Rattle.tape.specs.Answers.{bad_at, setup_answer}
@@ -25,14 +24,15 @@ use Rattle.playback_parts.specs.declared.Doing.TheVariants as Doing
 use Rattle.playback_parts.specs.declared.Playback.{Playback}
 use Rattle.playback_parts.specs.Forms.{printed_over}
 use Rattle.playback_opening.specs.declared.NotBegun.TheVariants as NotBegun
-use Rattle.playback_opening.specs.Beginnings.{Beginning, BegunAs}
+use Rattle.playback_opening.specs.Beginnings.{Beginning, RefusedAt, BegunAs}
 use Rattle.playback_opening.proofs.Begins.{bad_begun, setup_begun}
 use Rattle.playback.specs.declared.Wrote.{Wrote}
 use Rattle.playback.specs.declared.StepError.{StepError}
-use Rattle.playback.specs.Steps.{makes_call, room_for, Step, DoneAs}
+use Rattle.playback.specs.Steps.{room_for, Step, DoneAs}
+use Rattle.playback_parts.specs.Doings.{makes_call}
 use Rattle.playback.specs.Chains.{Moment, WroteAs, StepsAs, here, wrote}
 use Rattle.playback.proofs.Replayed.{IsWritten, refused_replay, whole_replay, never_stuck}
-use Rattle.playback_windows.specs.Promises.{step_from_start, BegunIn, RefusedIn}
+use Rattle.playback_windows.specs.Promises.{step_from_start, BegunIn}
 use Rattle.playback_windows.specs.Through.{SteppedBy, WroteBy, StepsBy, start as here-by, on as on-by}
 
 -- ---- each link is a step of the whole tape
@@ -57,16 +57,14 @@ IsWrittenIn None = ⊥
 
 written_from_start : (base : ℕ) (v : Step) → IsWritten (step_from_start base v) → IsWritten v
 written_from_start base (Ok (Some v)) is = tt
-written_from_start base (Ok None) is = is
-written_from_start base (Err StepError.NoRoom) is = is
-written_from_start base (Err StepError.NotHeld) is = is
 written_from_start base (Err (StepError.Bad bad)) is = is
+written_from_start base _ is = is
 
 -- ---- a tape that is refused
 
-module _ (form : Form) (whole : List ℕ) (n : ℕ) (fs : List Float) (us text text' : List ℕ) (k : ℕ) (line : RefusedIn n text (NotBegun.Refused k) text') where
+module _ (form : Form) (whole : List ℕ) (n : ℕ) (fs : List Float) (us text text' : List ℕ) (k : ℕ) (line : RefusedAt n text (NotBegun.Refused k) text') where
   refused_line_law : Err (bad_at n) ≡ setup_answer (read whole) → take k text' ≡ printed_over form (lent_of fs us) whole
-  refused_line_law front = refused_replay form _ whole fs us text us text' k (bad_begun form whole fs us text n k text' front line)
+  refused_line_law front = refused_replay form _ whole fs us text us text' k (bad_begun form whole fs us text n (NotBegun.Refused k) text' front line)
 
   -- by its opening
   pub windowed_opening_refused : OpenedBy whole (Err (bad_at n)) → take k text' ≡ printed_over form (lent_of fs us) whole
@@ -89,9 +87,7 @@ module _ (form : Form) (whole : List ℕ) (s : Setup) (front : Ok s ≡ setup_an
 
     -- the beginning by windows is that of the whole tape
     pub windowed_beginning : (v : Beginning) → BegunIn s fs us text v us' text' → BegunAs form out whole fs us text v us' text'
-    windowed_beginning (Err NotBegun.NoRoom) begun = begun
-    windowed_beginning (Err (NotBegun.Refused n)) begun = setup_begun form whole fs us text s (Err (NotBegun.Refused n)) us' text' front begun
-    windowed_beginning (Ok w) begun = setup_begun form whole fs us text s (Ok w) us' text' front begun
+    windowed_beginning v begun = setup_begun form whole fs us text s v us' text' front begun
 
     -- a setup that is refused
     pub windowed_setup_refused : (n : ℕ) → BegunIn s fs us text (Err (NotBegun.Refused n)) us' text' → take n text' ≡ out
@@ -117,7 +113,7 @@ module _ (form : Form) (whole : List ℕ) (s : Setup) (front : Ok s ≡ setup_an
             (step_from_start at.base v) n.floats n.words n.samples bytes' room (step_stands form whole last n bytes bytes' at v done))
         windowed_never_stuck None done =
             by_reach at.window (at.place + longest_call) at.last (far done.calls)
-            (λ end. let never : true ≡ false = sym end ∙ done.ends.more in clash (cc))
+            (λ end. let never : true ≡ false = sym end ∙ done.ends.more in cc)
             (λ fits. absurd (omega (arith, done.ends.short)))
 
 -- ---- the theorem

@@ -1,18 +1,16 @@
 -- What a step through a window promises of every tape that it can be a window of, and how a replay by windows begins. Assumes nothing.
-use Rattle.std.specs.Prelude.{ℕ, ◌+◌, ◌-◌, ◌*◌, ◌≤◌, ◌<◌, max, ◌≡◌, Bool, true, List, length, Float, Option, Some, None, Ok, Err}
-use Rattle.model.specs.Replay.{bad_tape_line}
+use Rattle.std.specs.Prelude.{ℕ, ◌+◌, ◌-◌, ◌*◌, ◌≤◌, max, ◌≡◌, Bool, true, List, length, Float, Option, Some, None, Ok, Err}
 use Rattle.tape.specs.declared.Setup.{Setup}
 use Rattle.tape.specs.Answers.{bad_at}
 use Rattle.tape_windows.specs.Windows.{WindowOf, longest_call, EndsBefore}
 use Rattle.calls.specs.Views.{model_setup}
 use Rattle.playback_parts.specs.declared.Form.{Form}
 use Rattle.playback_parts.specs.declared.Playback.{Playback}
-use Rattle.playback_parts.specs.Parts.{TextPut}
-use Rattle.playback_opening.specs.declared.NotBegun.{NotBegun}
-use Rattle.playback_opening.specs.Beginnings.{Beginning, SetUp, SetupRefused}
+use Rattle.playback_opening.specs.Beginnings.{Beginning, SetupBegun}
 use Rattle.playback.specs.declared.Wrote.{Wrote}
 use Rattle.playback.specs.declared.StepError.{StepError}
-use Rattle.playback.specs.Steps.{makes_call, AllUnchanged, Step, DoneAs}
+use Rattle.playback.specs.Steps.{AllUnchanged, Step, DoneAs}
+use Rattle.playback_parts.specs.Doings.{makes_call}
 
 -- ---- places counted from the tape's first word, where the window's first word is the tape's word `base`
 
@@ -24,10 +22,8 @@ wrote_from_start base v = record { playback = playback_from_start base v.playbac
 
 abbrev pub step_from_start : ℕ → Step → Step
 step_from_start base (Ok (Some v)) = Ok (Some (wrote_from_start base v))
-step_from_start base (Ok None) = Ok None
-step_from_start base (Err StepError.NoRoom) = Err StepError.NoRoom
-step_from_start base (Err StepError.NotHeld) = Err StepError.NotHeld
 step_from_start base (Err (StepError.Bad bad)) = Err (StepError.Bad (bad_at (base + bad.place)))
+step_from_start base v = v
 
 -- ---- a step
 
@@ -40,10 +36,8 @@ pub record ShortOf (window : List ℕ) (last : Bool) (w : Playback) (fs : List F
 -- a place that is answered does not lie past the window's end, unless the place asked for does
 abbrev pub StaysInside : List ℕ → ℕ → Step → Type 0
 StaysInside window place (Ok (Some v)) = 4 * v.playback.place ≤ max (4 * place) (length window)
-StaysInside window place (Ok None) = Unit {0}
-StaysInside window place (Err StepError.NoRoom) = Unit {0}
-StaysInside window place (Err StepError.NotHeld) = Unit {0}
 StaysInside window place (Err (StepError.Bad bad)) = 4 * bad.place ≤ length window
+StaysInside window place _ = Unit {0}
 
 -- the step through the window is the step through each tape that it can be a window of
 pub record StepOf (form : Form) (window : List ℕ) (last : Bool) (w : Playback) (fs : List Float) (us : List ℕ) (samples : List Float) (text : List ℕ) (v : Step) (fs' : List Float) (us' : List ℕ) (samples' : List Float) (text' : List ℕ) : Type 0 where
@@ -63,11 +57,4 @@ moved_on w words = record { receiver = w.receiver; place = w.place - words; doin
 
 -- by the setup at a tape's front
 abbrev pub BegunIn : Setup → List Float → List ℕ → List ℕ → Beginning → List ℕ → List ℕ → Type 0
-BegunIn x fs us text (Err NotBegun.NoRoom) us' text' = (length text < 170) × (us' ≡ us) × (text' ≡ text)
-BegunIn x fs us text (Err (NotBegun.Refused n)) us' text' = SetupRefused (model_setup x.sizes x.a x.b) fs us text n us' text'
-BegunIn x fs us text (Ok w) us' text' = SetUp (model_setup x.sizes x.a x.b) fs us text w us' text'
-
--- of a tape that is refused at a place
-abbrev pub RefusedIn : ℕ → List ℕ → NotBegun → List ℕ → Type 0
-RefusedIn place text NotBegun.NoRoom text' = (length text < 170) × (text' ≡ text)
-RefusedIn place text (NotBegun.Refused n) text' = TextPut (bad_tape_line place) text text' n
+BegunIn x fs us text v us' text' = SetupBegun (model_setup x.sizes x.a x.b) fs us text v us' text'

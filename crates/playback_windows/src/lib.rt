@@ -1,31 +1,21 @@
 // The replay of a tape of which only a window is in memory. A replay's place is counted from the window's first word; where that word stands
 // in the whole tape no function asks. What a step promises holds of every tape that the window can be of. No function asks anything of
-// its caller. (What is lent goes in slice by slice, as in `playback::stepping`.)
+// its caller. (What is lent to be changed goes in slice by slice, as in `playback::stepping`.)
 #![tactic(auto)]
 
 ghost use Rattle.std.specs.Prelude.{◌≡◌};
-ghost use Rattle.playback.specs.Steps.{makes_call};
 ghost use Rattle.playback_pieces.specs.Gathered.{moment};
-ghost use Rattle.playback_windows.specs.Promises.{SteppedIn, moved_on, BegunIn, RefusedIn};
+ghost use Rattle.playback_windows.specs.Promises.{SteppedIn, moved_on, BegunIn};
+ghost use Rattle.playback_opening.specs.Beginnings.{RefusedAt};
 ghost use Rattle.playback_windows.specs.Pieces.{ReachOf, PiecesIn};
 
 use playback::Step;
 use playback::stepping::step_as;
-use playback_opening::{NotBegun, put_bad_tape, set_up};
-use playback_parts::{Doing, Form, PIECE, Playback};
+use playback_opening::{NotBegun, refuse, set_up};
+use playback_parts::{Form, Playback};
 use playback_pieces::{Gathered, pieces};
 use tape::Setup;
-use tape_windows::{LONGEST_CALL, has_words};
-
-// No place lies behind it.
-const EVERY_PLACE: usize = usize::MAX;
-
-// Whether a call comes next, or the tape's end.
-fn makes_call(doing: Doing) -> bool
-    ensures { result ≡ makes_call doing }
-{
-    matches!(doing, Doing::Call)
-}
+use tape_windows::{LONGEST_CALL, Window};
 
 // The next piece of what is printed of the tape, at the front of the text: as through the whole tape, with places counted from the window's
 // first word. None: a call comes next, and the window ends too early to have it whole, and is not the last. Nothing is changed then.
@@ -33,28 +23,27 @@ pub fn step_in(
     w: Playback,
     fs: &mut [f32],
     us: &mut [u32],
-    window: &[u8],
-    last: bool,
+    window: Window<'_>,
     samples: &mut [f32],
     text: &mut [u8],
     form: Form,
 ) -> Option<Step>
-    ensures { SteppedIn form window.now last w fs.old us.old samples.old text.old result fs.new us.new samples.new text.new }
+    ensures { SteppedIn form window.entry.bytes.now window.entry.last w fs.old us.old samples.old text.old result fs.new us.new samples.new text.new }
 {
-    if makes_call(w.doing) && !has_words(window, w.place, LONGEST_CALL, last) {
+    if w.doing.is_call() && !window.has_words(w.place, LONGEST_CALL) {
         return None;
     }
-    Some(step_as(w, fs, us, window, samples, text, form))
+    Some(step_as(w, fs, us, window.bytes, samples, text, form))
 }
 
-// The first place from which on the window may not have a call whole.
-fn reach(window: &[u8], last: bool) -> usize
-    ensures { ReachOf window.now last result }
+// The first place from which on the window may not have a call whole; none where it is the last.
+fn reach(window: Window<'_>) -> Option<usize>
+    ensures { ReachOf window.entry.bytes.now window.entry.last result }
 {
-    if last {
-        return EVERY_PLACE;
+    if window.last {
+        return None;
     }
-    (window.len() / 4 + 1).saturating_sub(LONGEST_CALL)
+    Some((window.bytes.len() / 4 + 1).saturating_sub(LONGEST_CALL))
 }
 
 // As many pieces of what is printed of the tape as the text has room for, at its front. They stop before a call that the window may
@@ -63,16 +52,15 @@ pub fn pieces_in(
     w: Playback,
     fs: &mut [f32],
     us: &mut [u32],
-    window: &[u8],
-    last: bool,
+    window: Window<'_>,
     samples: &mut [f32],
     text: &mut [u8],
     form: Form,
 ) -> Gathered
-    ensures { PiecesIn form window.now last (moment w fs.old us.old samples.old) text.old result (moment result.playback fs.new us.new samples.new) text.new }
+    ensures { PiecesIn form window.entry.bytes.now window.entry.last (moment w fs.old us.old samples.old) text.old result (moment result.playback fs.new us.new samples.new) text.new }
 {
-    let until = reach(window, last);
-    pieces(w, fs, us, window, until, samples, text, form)
+    let until = reach(window);
+    pieces(w, fs, us, window.bytes, until, samples, text, form)
 }
 
 // The same replay, with its place counted from so many words further on: those words of the window are done with.
@@ -85,8 +73,7 @@ pub fn moved_on(w: Playback, words: usize) -> Playback
     }
 }
 
-// The beginning, by the setup that stands at the tape's front, once its calls are accepted. Only the u32 area is written. (The test of the
-// text's room stands here and below for the reason at `playback_opening::begin`.)
+// The beginning, by the setup that stands at the tape's front, once its calls are accepted. Only the u32 area is written.
 pub fn begin_in(
     setup: Setup,
     fs: &[f32],
@@ -95,18 +82,12 @@ pub fn begin_in(
 ) -> Result<Playback, NotBegun>
     ensures { BegunIn setup fs.now us.old text.old result us.new text.new }
 {
-    if text.len() < PIECE {
-        return Err(NotBegun::NoRoom);
-    }
     set_up(setup, fs, us, text)
 }
 
 // A tape that is refused at a place, which is counted from the tape's first word.
 pub fn refuse_in(text: &mut [u8], place: usize) -> NotBegun
-    ensures { RefusedIn place text.old result text.new }
+    ensures { RefusedAt place text.old result text.new }
 {
-    if text.len() < PIECE {
-        return NotBegun::NoRoom;
-    }
-    NotBegun::Refused(put_bad_tape(text, place))
+    refuse(text, place)
 }

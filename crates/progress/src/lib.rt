@@ -42,10 +42,7 @@ pub type Progress = Option<Shown>;
 
 // With the output, and where it is told how far a replay is.
 pub fn begin<O: IsTerminal, E: IsTerminal>(output: &O, errors: &E) -> Progress {
-    if !errors.is_terminal() {
-        return None;
-    }
-    Some(Shown {
+    errors.is_terminal().then(|| Shown {
         lines: output.is_terminal(),
         percent: None,
         a: 0,
@@ -53,42 +50,52 @@ pub fn begin<O: IsTerminal, E: IsTerminal>(output: &O, errors: &E) -> Progress {
     })
 }
 
-// With a call.
-fn heard(p: Shown, call: Call) -> Shown {
-    match call {
-        Call::Play {
-            side: Side::A,
-            samples,
-        } => Shown {
-            a: p.a.saturating_add(u64::from(samples)),
-            ..p
-        },
-        Call::Play {
-            side: Side::B,
-            samples,
-        } => Shown {
-            b: p.b.saturating_add(u64::from(samples)),
-            ..p
-        },
-        _ => p,
-    }
-}
-
-// With the calls of a window from one place up to another.
-fn heard_all(p: Shown, window: &[u8], from: usize, to: usize) -> Shown {
-    let mut heard_so_far = p;
-    let mut at = from;
-    // There are no more calls than words.
-    for _ in from..to {
-        match tape::reader::call_at(window, at) {
-            Ok(Some(placed)) if at < to => {
-                heard_so_far = heard(heard_so_far, placed.call);
-                at = placed.next;
-            }
-            _ => return heard_so_far,
+impl Shown {
+    // With a call.
+    fn heard(self, call: Call) -> Shown {
+        let Call::Play { side, samples } = call else {
+            return self;
+        };
+        let samples = u64::from(samples);
+        match side {
+            Side::A => Shown {
+                a: self.a.saturating_add(samples),
+                ..self
+            },
+            Side::B => Shown {
+                b: self.b.saturating_add(samples),
+                ..self
+            },
         }
     }
-    heard_so_far
+
+    // With the calls of a window from one place up to another.
+    fn all_heard(self, window: &[u8], from: usize, to: usize) -> Shown {
+        let mut shown = self;
+        let mut at = from;
+        // There are no more calls than words. (No `while`: that each call takes words is a law and two files of proof for its measure.)
+        for _ in from..to {
+            match tape::reader::call_at(window, at) {
+                Ok(Some(placed)) if at < to => {
+                    shown = shown.heard(placed.call);
+                    at = placed.next;
+                }
+                _ => return shown,
+            }
+        }
+        shown
+    }
+
+    // Where the output goes to the terminal too, each is a line of its own; else it stands over the last.
+    fn tell(self, percent: usize) {
+        let minutes = self.a.max(self.b) / MINUTE;
+        let (before, behind) = if self.lines { ("", "\n") } else { ("\r", "") };
+        let mut errors = Errors;
+        let _ = write!(
+            errors,
+            "{before}{percent} % of the file, {minutes} minutes of sound{behind}"
+        );
+    }
 }
 
 fn percent_of(done: usize, all: usize) -> usize {
@@ -97,27 +104,6 @@ fn percent_of(done: usize, all: usize) -> usize {
         return 100;
     }
     (done / part).min(100)
-}
-
-fn minutes(p: Shown) -> u64 {
-    p.a.max(p.b) / MINUTE
-}
-
-// Where the output goes to the terminal too, each is a line of its own; else it stands over the last.
-fn tell(p: Shown, percent: usize) {
-    let minutes = minutes(p);
-    let mut errors = Errors;
-    let _ = if p.lines {
-        writeln!(
-            errors,
-            "{percent} % of the file, {minutes} minutes of sound"
-        )
-    } else {
-        write!(
-            errors,
-            "\r{percent} % of the file, {minutes} minutes of sound"
-        )
-    };
 }
 
 // The calls of a window from one place up to another were made, and so many bytes of the file are done with.
@@ -129,23 +115,20 @@ pub fn further(
     done: usize,
     all: usize,
 ) -> Progress {
-    let sofar = heard_all(p?, window, from, to);
+    let shown = p?.all_heard(window, from, to);
     let percent = percent_of(done, all);
-    if sofar.percent == Some(percent) {
-        return Some(sofar);
+    if shown.percent != Some(percent) {
+        shown.tell(percent);
     }
-    tell(sofar, percent);
     Some(Shown {
         percent: Some(percent),
-        ..sofar
+        ..shown
     })
 }
 
 // The line's end.
 pub fn end(p: Progress) {
-    if let Some(shown) = p {
-        if !shown.lines {
-            let _ = Errors.write_str("\n");
-        }
+    if let Some(Shown { lines: false, .. }) = p {
+        let _ = Errors.write_str("\n");
     }
 }

@@ -16,13 +16,7 @@ four_bytes a b c d = omega arith
 
 pub floats_of_fours : (k : ℕ) (bytes : List ℕ) → k ≡ length bytes / 4 → floats_of bytes ≡ map value_of (first_chunks 4 k bytes)
 unfolding floats_of
-floats_of_fours zero [] h = refl
-floats_of_fours zero (a ∷ []) h = refl
-floats_of_fours zero (a ∷ b ∷ []) h = refl
-floats_of_fours zero (a ∷ b ∷ c ∷ []) h = refl
 floats_of_fours zero (a ∷ b ∷ c ∷ d ∷ rest) h = absurd (omega arith)
-floats_of_fours (suc k) [] h = absurd (omega arith)
-floats_of_fours (suc k) (a ∷ []) h = absurd (omega arith)
-floats_of_fours (suc k) (a ∷ b ∷ []) h = absurd (omega arith)
-floats_of_fours (suc k) (a ∷ b ∷ c ∷ []) h = absurd (omega arith)
+floats_of_fours zero _ h = refl
 floats_of_fours (suc k) (a ∷ b ∷ c ∷ d ∷ rest) h = rw (four_bytes a b c d, floats_of_fours k rest (omega arith))
+floats_of_fours (suc k) _ h = absurd (omega arith)

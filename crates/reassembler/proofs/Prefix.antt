@@ -10,7 +10,7 @@ use lib.Seq.{take-suc, drop-cons}
 use lib.Ieee.{Float}
 use Rattle.model.specs.Floats.{finite}
 use Rattle.model.specs.Row.{finite_prefix}
-use Rattle.model.proofs.BoolLaws.{by_test, cond_keeps}
+use Rattle.model.proofs.BoolLaws.{by_test}
 
 -- the first j values are finite: the prefix goes on behind them
 abbrev pub PrefixPast : List Float → ℕ → Type 0
@@ -29,13 +29,6 @@ module _ (xs : List Float) (j : ℕ) (past : PrefixPast xs j) where
     pub prefix_stops : finite (get_or xs j d) ≡ false → finite_prefix xs ≡ take j xs
     unfolding finite_prefix
     prefix_stops not-Finite = past ∙ rw (drop-cons xs j d h, not-Finite) (append-nil _)
-
-pub prefix_length : (xs : List Float) → length (finite_prefix xs) ≤ length xs
-unfolding finite_prefix
-prefix_length [] = omega arith
-prefix_length (x ∷ xs) =
-    let shorter = prefix_length xs in
-    cond_keeps (λ ys. length ys ≤ suc (length xs)) (finite x) (x ∷ finite_prefix xs) [] (λ is_finite. omega arith) (λ not-Finite. omega arith)
 
 -- a prefix as long as the whole is the whole
 pub whole_prefix : (xs : List Float) → length (finite_prefix xs) ≡ length xs → finite_prefix xs ≡ xs

@@ -1,5 +1,6 @@
 -- What a row's chunk leaves, by its tests; and the front of a slice that values were placed in. Assumes nothing.
 use Rattle.std.proofs.Common.{Some, None}
+use Rattle.std.proofs.lemmas.List.{take_rest}
 use mathlib.Core.Path.{◌≡◌, refl, sym, ◌∙◌, ap}
 use mathlib.Core.Bool.{false, ◌&&◌}
 use mathlib.Core.Option.{Option, none, some}
@@ -7,7 +8,7 @@ use mathlib.Core.List.{List, [], ◌++◌, map, append_assoc, append-nil}
 use Prim.Native.Nat.{ℕ, ◌+◌, ◌-◌, ◌*◌, ◌≤◌, ◌<◌}
 use native.Mathlib.Omega.{arith}
 use lib.ListN.{length, length-map, take, drop, replicate, take-append-drop, length-replicate, length-drop, drop_of_length-le}
-use lib.Seq.{take_at, take_all, take-append-le, drop-append-le, drop-drop, length-take-le}
+use lib.Seq.{take_at, take-append-le, drop-append-le, drop-drop, length-take-le}
 use lib.Dec.{eqb, ltb}
 use lib.Ieee.{Float}
 use borrow.Rule.Slice.PartMut.{put_mid}
@@ -17,11 +18,12 @@ use Rattle.model.specs.Row as Row
 use Rattle.model.specs.Row.{Row, finite_prefix, complete, row_for, open_row, store_all, store_some, store_chunk}
 use Rattle.model.proofs.BoolLaws.{by_test, cond_keeps, second_of_both}
 use Rattle.model.proofs.ListLaws.{placed_length}
+use Rattle.model.proofs.RowLaws.{finite_prefix_length}
 use Rattle.reassembler.specs.declared.Chunk.{Chunk}
 use Rattle.reassembler.specs.declared.OpenRow.{OpenRow}
 use Rattle.reassembler.specs.Requires.{RowKept, Storable}
 use Rattle.reassembler.specs.Rows.{value_of, chunk_of, open_of, counted_row, StoredPrefix, PushedAs}
-use Rattle.reassembler.proofs.Prefix.{prefix_length, whole_prefix}
+use Rattle.reassembler.proofs.Prefix.{whole_prefix}
 
 module _ {ℓ} {A : Type ℓ} where
   placed_in_front : (at : ℕ) (ys zs ws : List A) → at + length ys ≤ length zs → placed at ys (zs ++ ws) ≡ placed at ys zs ++ ws
@@ -65,9 +67,8 @@ row_for_filled c (some r) room some_bins kept =
 pub end_written : (at : ℕ) (ys xs : List Float) → length ys + at ≤ length xs → put_mid at (length xs - at) xs (ys ++ drop (length ys) (take (length xs - at) (drop at xs))) ≡ placed at ys xs
 unfolding placed
 end_written at ys xs fits =
-    let rest : take (length xs - at) (drop at xs) ≡ drop at xs = take_all (length xs - at) (drop at xs) (simp length-drop (omega arith)) in
     let none : drop (length xs - at) (drop at xs) ≡ [] = drop_of_length-le (drop at xs) {i = length xs - at} (simp length-drop (omega arith)) in
-    rw (rest, none, append-nil, drop-drop)
+    rw (take_rest xs at, none, append-nil, drop-drop)
 
 -- ---- values stored in a row that is not done
 
@@ -84,17 +85,17 @@ module _ (r : OpenRow) (entry to : List Float) (c : Chunk) (n : ℕ)
   as_many = length-map c.values.now value_of
 
   stored : exit ≡ placed c.first (finite_prefix values) entry
-  stored = rw s.stored (end_written c.first (finite_prefix values) entry (omega (arith, prefix_length values, as_many, h.inside, h.fits)))
+  stored = rw s.stored (end_written c.first (finite_prefix values) entry (omega (arith, finite_prefix_length values, as_many, h.inside, h.fits)))
 
   values_stored : take r.total_bins exit ≡ placed c.first (finite_prefix values) (take r.total_bins entry)
   values_stored =
       ap (λ (xs : List Float). take r.total_bins xs) stored
-      ∙ take_placed r.total_bins c.first (finite_prefix values) entry (omega (arith, prefix_length values, as_many, h.inside)) h.fits
+      ∙ take_placed r.total_bins c.first (finite_prefix values) entry (omega (arith, finite_prefix_length values, as_many, h.inside)) h.fits
 
   as_long : length exit ≡ length entry
-  as_long = ap length stored ∙ placed_length c.first (finite_prefix values) entry (omega (arith, prefix_length values, as_many, h.inside, h.fits))
+  as_long = ap length stored ∙ placed_length c.first (finite_prefix values) entry (omega (arith, finite_prefix_length values, as_many, h.inside, h.fits))
 
-  pub some_stored : (n ≡ length c.values.now → ⊥) → PushedAs (store_chunk (chunk_of c) (open_of r entry)) (record { row = Some r; completed = None }) exit
+  pub some_stored : (n ≡ length c.values.now → ⊥) → PushedAs (store_chunk (chunk_of c) (open_of r entry)) (record { state = Some r; completed = None }) exit
   unfolding store_chunk store_some
   some_stored fewer =
       let differ : eqb (length (finite_prefix values)) (length values) ≡ false = ne_eqb _ _ (λ e. fewer (s.count ∙ e ∙ as_many)) in

@@ -51,15 +51,15 @@ completed_of None buf = none
 completed_of (Some n) buf = some (take n buf)
 
 -- the row with n bins more: done, and completed, at its total or above
-abbrev pub counted_row : OpenRow → ℕ → Pushed
+abbrev pub counted_row : OpenRow → ℕ → Pushed (Option OpenRow)
 counted_row r n =
     cond (ltb (r.filled + n) r.total_bins)
     (record {
-      row = Some (record { row_seq = r.row_seq; total_bins = r.total_bins; filled = r.filled + n; done = false });
+      state = Some (record { row_seq = r.row_seq; total_bins = r.total_bins; filled = r.filled + n; done = false });
       completed = None;
     })
     (record {
-      row = Some (record { row_seq = r.row_seq; total_bins = r.total_bins; filled = r.filled + n; done = true });
+      state = Some (record { row_seq = r.row_seq; total_bins = r.total_bins; filled = r.filled + n; done = true });
       completed = Some r.total_bins;
     })
 
@@ -74,7 +74,7 @@ CompletedInside None room = Unit {0}
 CompletedInside (Some n) room = (1 ≤ n) × (n ≤ room)
 
 -- the model's result, read out of the answer and the slice at exit
-pub record PushedAs (result : RowResult) (r : Pushed) (exit : List Float) : Type 0 where
-  pub row : row_of r.row exit ≡ result.row
+pub record PushedAs (result : RowResult) (r : Pushed (Option OpenRow)) (exit : List Float) : Type 0 where
+  pub row : row_of r.state exit ≡ result.row
   pub completed : completed_of r.completed exit ≡ result.completed
   pub inside : CompletedInside r.completed (length exit)

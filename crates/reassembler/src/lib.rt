@@ -21,10 +21,11 @@ pub struct OpenRow {
     pub done: bool,
 }
 
-// What a chunk leaves: the row, and the bins of the row that the chunk completed, if it did.
+// What a chunk leaves of what it goes to, as the row, the screen, the channel or the receiver, and the bins of the row that it
+// completed, if it did.
 #[derive(Clone, Copy, PartialEq, Eq, Debug)]
-pub struct Pushed {
-    pub row: Option<OpenRow>,
+pub struct Pushed<S> {
+    pub state: S,
     pub completed: Option<usize>,
 }
 
@@ -39,13 +40,14 @@ struct Chunk<'a> {
 
 // Feeds one chunk, the bytes after the media header. A new row number or total opens a zeroed row; a done row ignores the
 // chunk. At a value that is not finite the earlier ones remain and nothing is counted.
-pub fn push_chunk(row: Option<OpenRow>, buf: &mut [f32], payload: &[u8]) -> Pushed
+#[tactic(auto, using(crate::proofs::WellFormed::chunk_stored, crate::proofs::WellFormed::chunk_ignored, crate::proofs::RowStore::row_for_total, crate::proofs::RowStore::row_for_filled), unfolding(model::specs::Row::chunk_fields))]
+pub fn push_chunk(row: Option<OpenRow>, buf: &mut [f32], payload: &[u8]) -> Pushed<Option<OpenRow>>
     requires { PushFits (row_of row buf.old) (length buf.old) payload.now }
     ensures { PushedAs (push_chunk payload.now (row_of row buf.old)) result buf.new }
 {
     let Some(chunk) = chunk_in(payload) else {
         return Pushed {
-            row,
+            state: row,
             completed: None,
         };
     };
@@ -55,6 +57,7 @@ pub fn push_chunk(row: Option<OpenRow>, buf: &mut [f32], payload: &[u8]) -> Push
 
 // The chunk of a payload that is not ignored: 6 bytes or more, a total that is not 0, whole values, and all of them inside
 // the total.
+#[tactic(auto, using(crate::proofs::WellFormed::too_short_law))]
 fn chunk_in(payload: &[u8]) -> Option<Chunk<'_>>
     ensures { ChunkIn payload.now result }
 {
@@ -77,6 +80,7 @@ fn chunk_in(payload: &[u8]) -> Option<Chunk<'_>>
 }
 
 // The row that a chunk goes to: the open one, or where the number or the total is another, a zeroed one.
+#[tactic(auto, unfolding(model::specs::Row::row_for))]
 fn row_for(row: Option<OpenRow>, buf: &mut [f32], chunk: Chunk<'_>) -> OpenRow
     requires { chunk.total_bins ≤ length buf.old }
     ensures { open_of result buf.new ≡ row_for (chunk_of chunk.entry) (row_of row buf.old) }
@@ -88,6 +92,7 @@ fn row_for(row: Option<OpenRow>, buf: &mut [f32], chunk: Chunk<'_>) -> OpenRow
 }
 
 // A zeroed row.
+#[tactic(auto, using(model::proofs::Constants::f_zero, crate::proofs::RowStore::take_filled), unfolding(model::specs::Row::open_row))]
 fn open_row(buf: &mut [f32], chunk: Chunk<'_>) -> OpenRow
     requires { chunk.total_bins ≤ length buf.old }
     ensures { open_of result buf.new ≡ open_row (chunk_of chunk.entry) }
@@ -103,14 +108,14 @@ fn open_row(buf: &mut [f32], chunk: Chunk<'_>) -> OpenRow
 }
 
 // Stores a chunk's values in its row. Filled bins at the total or above complete the row.
-fn store_chunk(row: OpenRow, buf: &mut [f32], chunk: Chunk<'_>) -> Pushed
+fn store_chunk(row: OpenRow, buf: &mut [f32], chunk: Chunk<'_>) -> Pushed<Option<OpenRow>>
     requires { Storable row.total_bins row.filled (length buf.old) chunk.first (length chunk.values.now) }
     ensures { PushedAs (store_chunk (chunk_of chunk.entry) (open_of row buf.old)) result buf.new }
 {
     let n = chunk.values.len();
     if row.done || store_finite(&mut buf[chunk.first..], chunk.values) != n {
         return Pushed {
-            row: Some(row),
+            state: Some(row),
             completed: None,
         };
     }
@@ -118,14 +123,14 @@ fn store_chunk(row: OpenRow, buf: &mut [f32], chunk: Chunk<'_>) -> Pushed
 }
 
 // The row with n bins more.
-fn count_filled(row: OpenRow, n: usize) -> Pushed
+fn count_filled(row: OpenRow, n: usize) -> Pushed<Option<OpenRow>>
     requires { row.filled + n < 18446744073709551616 }
     ensures { result ≡ counted_row row n }
 {
     let filled = row.filled + n;
     let done = filled >= row.total_bins;
     Pushed {
-        row: Some(OpenRow {
+        state: Some(OpenRow {
             filled,
             done,
             ..row

@@ -13,7 +13,7 @@ use Rattle.model.specs.Questions.{first_no, own_questions}
 use Rattle.model.specs.Step.{play_channel, changes}
 use Rattle.calls.specs.declared.Side.{Side}
 use Rattle.calls.specs.declared.Refusal.TheVariants as Refusal
-use Rattle.calls.specs.Views.{model_side, sizes_of}
+use Rattle.calls.specs.Views.{model_side, model_played, sizes_of}
 use Rattle.jitter_buffer.proofs.HeldKept.{WordsFit}
 use Rattle.channel.specs.declared.Played.{Played}
 use Rattle.channel.specs.Promises.{ChannelPlayed}
@@ -41,12 +41,12 @@ module _ (r : Receiver) (fs : List Float) (us : List ℕ) (ready : Ready r fs us
       (take (length us - word_start (sizes_of r.sizes) side) (drop (word_start (sizes_of r.sizes) side) us)) out p ys vs out'
       → length out' ≡ length out
       → PlayedOut side r fs us out
-      (record { receiver = counted (channel_set side p.channel r); answer = Ok (Answer.Played p.taken p.dropped p.short) })
+      (record { receiver = counted (channel_set side p.channel r); answer = Ok (Answer.Played p.samples) })
       (floats_put r fs us (sides_ready r fs us ready) side ys vs) (words_put r fs us (sides_ready r fs us ready) side ys vs) out'
   unfolding changes own_questions first_no is_accepted
   play_called p ys vs out' few h as_long =
       let sides = sides_ready r fs us ready in
-      let answer = played (record { samples = out'; taken = p.taken; dropped = p.dropped; short = p.short }) in
+      let answer = played (model_played p.samples out') in
       let done = sound_taken r fs us sides side (play_channel (sizes_of r.sizes) (length out)) p.channel answer ys vs h.step h.behind in
       record {
         called =

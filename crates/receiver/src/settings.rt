@@ -1,5 +1,5 @@
 // A channel's reset and its settings. They leave both areas as they are.
-// State and areas go in one by one: a struct of them would need a clause on each lent slice's reference in each contract.
+// State and areas go in one by one: C lends both areas so with each call, and a struct of them would be made at each call.
 ghost use Rattle.std.specs.Prelude.{[]};
 ghost use Rattle.model.specs.Receiver.{reset, set};
 ghost use Rattle.calls.specs.Views.{model_side, model_settings};
@@ -13,7 +13,7 @@ use receiver_state::counted::{accepted, answered};
 use receiver_state::sides::{channel_of, with_channel};
 use receiver_state::{Answer, Answered, Receiver};
 
-// A reset's work.
+// A reset's work. (No function for both with a closure, as the clock's calls have: with its contract it is as long as these two.)
 fn cleared(r: Receiver, fs: &[f32], us: &[u32], side: Side) -> Result<(Receiver, Answer), Refusal>
     ensures { Worked (reset (model_side side)) r fs.now us.now result }
 {

@@ -12,6 +12,7 @@ use receiver_state::{Answer, Answered, Receiver};
 use sizes::AllowedSizes;
 
 // A play's work.
+#[tactic(auto, using(receiver_state::proofs::StateQuestions::section_bounds))]
 fn played(
     r: Receiver,
     fs: &mut [f32],
@@ -25,19 +26,14 @@ fn played(
     if 65535 < out.len() {
         return Err(Refusal::Range);
     }
-    let begin = starts(AllowedSizes { sizes: r.sizes }, side);
-    let played = channel_of(r, side).play(
-        r.sizes,
-        &mut fs[begin.floats..],
-        &mut us[begin.words..],
-        out,
-    );
-    let answer = Answer::Played {
-        taken: played.taken,
-        dropped: played.dropped,
-        short: played.short,
-    };
-    Ok((count_call(with_channel(r, side, played.channel)), answer))
+    // Made anew from what was asked, as in `receiver_state::sides`.
+    let z = AllowedSizes { sizes: r.sizes };
+    let begin = starts(z, side);
+    let played = channel_of(r, side).play(z, &mut fs[begin.floats..], &mut us[begin.words..], out);
+    Ok((
+        count_call(with_channel(r, side, played.channel)),
+        Answer::Played(played.samples),
+    ))
 }
 
 // A play of as many samples as the output has.

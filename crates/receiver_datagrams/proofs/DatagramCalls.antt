@@ -1,19 +1,16 @@
 -- A datagram that questions 1 to 4 let through: its own questions, its header's counts, and its stream's work. Assumes nothing.
 use Rattle.std.proofs.Common.{None, Some, Ok, Err}
 use Rattle.std.specs.Prelude.{Option, MatchOption}
+use Rattle.std.proofs.lemmas.List.{take_rest, drop_min}
 use mathlib.Core.Path.{◌≡◌, refl, sym, ◌∙◌, ap}
 use mathlib.Core.Bool.{true}
 use mathlib.Core.Option.{none, some}
-use mathlib.Core.List.{List, [], ◌∷◌}
-use Prim.Native.Nat.{ℕ, zero, suc, ◌+◌, ◌-◌, ◌*◌, ◌^◌, ◌≤◌, ◌<◌, min}
-use native.Mathlib.Omega.{arith}
-use lib.ListN.{length, take, drop, get_or}
-use lib.Seq.{drop-length}
+use mathlib.Core.List.{List}
+use Prim.Native.Nat.{ℕ, ◌+◌, ◌-◌, ◌*◌, ◌^◌, ◌≤◌, ◌<◌, min}
+use lib.ListN.{length, take, drop}
 use lib.Dec.{leb, ltb}
 use lib.Ieee.{Float}
-use mir.Val.{Fits}
-use mir.Syntax.{w8}
-use borrow.Author.Tests.{le-leb, lt-leb, lt-ltb, leb-true, leb-false, ltb-false}
+use borrow.Author.Tests.{le-leb, lt-leb, ltb-false}
 use Rattle.model.specs.Bytes.{all}
 use Rattle.model.specs.Sizes as Sizing
 use Rattle.model.specs.Framing as Framing
@@ -23,7 +20,7 @@ use Rattle.model.specs.Receiver as Model
 use Rattle.model.specs.Receiver.{datagram, row, is_accepted}
 use Rattle.model.specs.Questions.{most_calls, most_added, first_no, own_questions, length_allowed, stream_allowed, total_allowed, channel_held, clock_held, stream_held, held}
 use Rattle.model.specs.Step.{audio_into, counts_after, count_header, dispatch, take_datagram, changes, one_call_more, accept}
-use Rattle.model.proofs.BoolLaws.{by_test, clash, first_of_both, second_of_both, both_and}
+use Rattle.model.proofs.BoolLaws.{by_test, first_of_both, second_of_both, both_and}
 use Rattle.calls.specs.declared.Side.{Side}
 use Rattle.calls.specs.declared.Side.TheVariants.{A, B}
 use Rattle.calls.specs.declared.Refusal.{Refusal}
@@ -44,45 +41,20 @@ use Rattle.receiver_state.specs.declared.Receiver.{Receiver}
 use Rattle.receiver_state.specs.declared.Answer.{Answer as AnyAnswer}
 use Rattle.receiver_state.specs.declared.Answer.TheVariants as Answer
 use Rattle.receiver_datagrams.specs.declared.Stream.{Stream}
-use Rattle.receiver_state.specs.declared.sides.RowsShown.{RowsShown}
+use Rattle.reassembler.specs.declared.Pushed.{Pushed}
 use Rattle.receiver_state.specs.View.{row_place, stream_place, channel_at, state_of}
-use Rattle.receiver_datagrams.specs.Promises.{counted_on, model_stream, header_questions}
+use Rattle.receiver_datagrams.specs.Promises.{counted_on, model_stream, header_questions, HeaderReady, DatagramTaken}
 use Rattle.receiver_state.specs.Fields.{counted, header_set}
 use Rattle.receiver_state.specs.Promises.{AreasKept, Called, Ready, SidesReady, SideTaken, RowsTaken}
-use Rattle.receiver_datagrams.specs.Promises.{HeaderReady, DatagramTaken}
 use Rattle.receiver_state.proofs.CallLaws.{areas_same, own_refused, accepted_called, sides_ready}
 use Rattle.receiver_state.proofs.SideCalls.{channel_on}
-use Rattle.receiver_state.proofs.Lending.{whole_end}
-
--- ---- bytes
-
-pub bytes_are : (xs : List ℕ) → ((i : ℕ) → Fits w8 (get_or xs i 0)) → all (λ b. ltb b 256) xs ≡ true
-unfolding all
-bytes_are [] fits = refl
-bytes_are (x ∷ xs) fits = both_and (lt-ltb x 256 (omega (arith, fits 0))) (bytes_are xs (λ i. fits (suc i)))
-
--- a payload that begins at the end at most
-payload_is : (start : ℕ) (bytes : List ℕ) → drop (min start (length bytes)) bytes ≡ drop start bytes
-payload_is start bytes =
-    by_test (leb start (length bytes))
-    (λ inside. let e : min start (length bytes) ≡ start = omega (arith, leb-true start (length bytes) inside) in rw e)
-    (λ outside.
-    let out = leb-false start (length bytes) outside in
-    let e : min start (length bytes) ≡ length bytes = omega arith in
-    rw e (drop-length bytes ∙ sym (drop_all start bytes (omega arith))))
-  where
-    drop_all : (n : ℕ) (xs : List ℕ) → length xs ≤ n → drop n xs ≡ []
-    drop_all zero [] h = refl
-    drop_all (suc n) [] h = refl
-    drop_all zero (x ∷ xs) h = absurd (omega arith)
-    drop_all (suc n) (x ∷ xs) h = drop_all n xs (omega arith)
 
 -- the payload that is lent
 pub payload_taken : (from start version : ℕ) (bytes : List ℕ) → from ≡ min start (length bytes) → start ≡ audio_start version
     → take (length bytes - from) (drop from bytes) ≡ audio_payload version bytes
 unfolding audio_payload
 payload_taken from start version bytes from_is start_is =
-    whole_end from bytes ∙ ap (λ (n : ℕ). drop n bytes) from_is ∙ payload_is start bytes ∙ ap (λ (n : ℕ). drop n bytes) start_is
+    take_rest bytes from ∙ ap (λ (n : ℕ). drop n bytes) from_is ∙ drop_min start bytes ∙ ap (λ (n : ℕ). drop n bytes) start_is
 
 -- ---- refusals
 
@@ -233,20 +205,20 @@ module _ (r : Receiver) (fs : List Float) (us bytes : List ℕ) (h : MediaHeader
   total_asked side stream = rw stream at asked.stream_asked
 
   module _ (side : Side) (stream : stream_in bytes ≡ Framing.waterfall (model_side side))
-      (k : StreamCounts) (k-is : counts_of k ≡ counted_on side h.sequence (counts_of r.waterfall)) (v : RowsShown) (fs' : List Float) (us' : List ℕ)
+      (k : StreamCounts) (k-is : counts_of k ≡ counted_on side h.sequence (counts_of r.waterfall)) (v : Pushed Receiver) (fs' : List Float) (us' : List ℕ)
       (taken : RowsTaken side (header_set r.audio k r) fs us (drop 16 bytes) v fs' us') where
     seen_called : (a : Model.Answer) → is_accepted a ≡ true → Model.row (completed_of v.completed (drop (row_place (sizes_of r.sizes) side) fs')) ≡ a
-        → Called (datagram bytes) r fs us a (counted v.receiver) fs' us'
+        → Called (datagram bytes) r fs us a (counted v.state) fs' us'
     unfolding dispatch
     seen_called a accepts is =
-        datagram_called (Framing.waterfall (model_side side)) stream r.audio k (rows_counted side k k-is) a accepts v.receiver fs' us'
+        datagram_called (Framing.waterfall (model_side side)) stream r.audio k (rows_counted side k k-is) a accepts v.state fs' us'
         (taken.shown.taken ∙ rw is) taken.shown.areas
 
-    none_completed : v.completed ≡ None → DatagramTaken r fs us bytes (record { receiver = counted v.receiver; answer = Ok Answer.NoRow }) fs' us'
+    none_completed : v.completed ≡ None → DatagramTaken r fs us bytes (record { receiver = counted v.state; answer = Ok Answer.NoRow }) fs' us'
     unfolding is_accepted
     none_completed is = record { called = seen_called (row none) refl (rw is); row_bins = tt }
 
-    one_completed : (n : ℕ) → v.completed ≡ Some n → DatagramTaken r fs us bytes (record { receiver = counted v.receiver; answer = Ok (Answer.Row n) }) fs' us'
+    one_completed : (n : ℕ) → v.completed ≡ Some n → DatagramTaken r fs us bytes (record { receiver = counted v.state; answer = Ok (Answer.Row n) }) fs' us'
     unfolding is_accepted
     one_completed n is =
         record {
@@ -256,11 +228,11 @@ module _ (r : Receiver) (fs : List Float) (us bytes : List ℕ) (h : MediaHeader
 
     -- a datagram that completes a row answers its length
     pub row_answered : (a : AnyAnswer) → MatchOption v.completed (a ≡ Answer.NoRow) (λ n. a ≡ Answer.Row n)
-        → DatagramTaken r fs us bytes (record { receiver = counted v.receiver; answer = Ok a }) fs' us'
+        → DatagramTaken r fs us bytes (record { receiver = counted v.state; answer = Ok a }) fs' us'
     row_answered a says = by_completed v.completed refl says
       where
         by_completed : (o : Option ℕ) → v.completed ≡ o → MatchOption o (a ≡ Answer.NoRow) (λ n. a ≡ Answer.Row n)
-            → DatagramTaken r fs us bytes (record { receiver = counted v.receiver; answer = Ok a }) fs' us'
+            → DatagramTaken r fs us bytes (record { receiver = counted v.state; answer = Ok a }) fs' us'
         by_completed None is e = rw e (none_completed is)
         by_completed (Some n) is e = rw e (one_completed n is)
 
@@ -273,8 +245,8 @@ headers_told z h stream bytes none-refuse =
     by_test (valid_header h)
     (λ seven. by_test (stream_allowed z bytes stream)
     (λ eight. (seven, eight))
-    (λ eight. let no : none ≡ some 8 = rw (seven, eight) at none-refuse in clash (cc)))
-    (λ seven. let no : none ≡ some 7 = rw seven at none-refuse in clash (cc))
+    (λ eight. let no : none ≡ some 8 = rw (seven, eight) at none-refuse in cc))
+    (λ seven. let no : none ≡ some 7 = rw seven at none-refuse in cc)
 
 -- ---- the header that was found
 
@@ -282,7 +254,7 @@ pub header_found_law : (bytes : List ℕ) (h : MediaHeader) → some (header_of 
 unfolding parse_header
 header_found_law bytes h is =
     by_test (ltb (length bytes) 16)
-    (λ short. let no : some (header_of h) ≡ none = rw short at is in clash (cc))
+    (λ short. let no : some (header_of h) ≡ none = rw short at is in cc)
     (λ long. let found : some (header_of h) ≡ some (header_fields bytes) = rw long at is in (ltb-false (length bytes) 16 long, cc))
 
 pub stream_found : (bytes : List ℕ) (h : MediaHeader) (s : Stream) → header_of h ≡ header_fields bytes → model_stream s ≡ Framing.stream_of h.stream_type → stream_in bytes ≡ model_stream s

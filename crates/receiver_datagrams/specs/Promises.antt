@@ -1,5 +1,5 @@
 -- What a datagram promises. Assumes nothing.
-use Rattle.std.specs.Prelude.{ℕ, ◌≤◌, ◌≡◌, true, List, [], ◌∷◌, drop, Float, Result, Ok, Err}
+use Rattle.std.specs.Prelude.{ℕ, ◌≤◌, ◌≡◌, true, List, [], ◌∷◌, drop, Float, Result, Ok}
 use Rattle.model.specs.Sizes as Sizing
 use Rattle.model.specs.Framing as Framing
 use Rattle.model.specs.Counts as Counts
@@ -14,7 +14,7 @@ use Rattle.udp_framing.specs.declared.MediaHeader.{MediaHeader}
 use Rattle.udp_framing.specs.Views.{header_of}
 use Rattle.receiver_state.specs.declared.Receiver.{Receiver}
 use Rattle.receiver_state.specs.declared.Answer.{Answer}
-use Rattle.receiver_state.specs.declared.Answer.TheVariants.{Accepted, Played, NoRow, Row}
+use Rattle.receiver_state.specs.declared.Answer.TheVariants.{Row}
 use Rattle.receiver_state.specs.declared.Answered.{Answered}
 use Rattle.receiver_datagrams.specs.declared.Stream.{Stream}
 use Rattle.receiver_datagrams.specs.declared.Stream.TheVariants as Streams
@@ -34,11 +34,8 @@ counted_on B sequence c = c
 
 -- a completed row has 1 to bins values
 abbrev pub RowBins : Result Answer Refusal → ℕ → Type 0
-RowBins (Err why) bins = Unit {0}
-RowBins (Ok Accepted) bins = Unit {0}
-RowBins (Ok (Played taken dropped short)) bins = Unit {0}
-RowBins (Ok NoRow) bins = Unit {0}
 RowBins (Ok (Row n)) bins = (1 ≤ n) × (n ≤ bins)
+RowBins _ bins = Unit {0}
 
 -- questions 7 and 8, in their order
 abbrev pub header_questions : Sizing.Sizes → Framing.Header → Framing.Stream → List ℕ → List Question

@@ -55,6 +55,7 @@ fn counted_on(counts: StreamCounts, side: Side, sequence: u32) -> StreamCounts
 }
 
 // A datagram that all questions let through: its header is counted, and the work of its stream is done.
+#[tactic(auto, using(crate::proofs::DatagramCalls::audio_fits, crate::proofs::DatagramCalls::waterfall_fits, crate::proofs::DatagramCalls::incoming_fits))]
 fn dispatched(
     r: Receiver,
     fs: &mut [f32],
@@ -80,7 +81,7 @@ fn dispatched(
             let counts = counted_on(r.waterfall, side, header.sequence);
             let begun = count_header(r, r.audio, counts);
             let shown = waterfall_on(begun, fs, us, side, &bytes[16..]);
-            let after = count_call(shown.receiver);
+            let after = count_call(shown.state);
             (after, shown.completed.map_or(Answer::NoRow, Answer::Row))
         }
         // No channel takes it.
@@ -92,6 +93,7 @@ fn dispatched(
 }
 
 // Question 8 of a datagram of that stream: a waterfall payload's total.
+#[tactic(auto, using(std::proofs::lemmas::List::take_rest), unfolding(model::specs::Questions::stream_allowed))]
 fn stream_allowed(z: Sizes, stream: Stream, bytes: &[u8]) -> bool
     requires { 16 ≤ length bytes.now }
     ensures { result ≡ stream_allowed (sizes_of z) bytes.now (model_stream stream) }
@@ -103,6 +105,7 @@ fn stream_allowed(z: Sizes, stream: Stream, bytes: &[u8]) -> bool
 }
 
 // Questions 7 and 8, in their order: the first that is answered with no, if one is.
+#[tactic(auto, unfolding(model::specs::Questions::first_no))]
 fn header_asked(z: Sizes, header: MediaHeader, stream: Stream, bytes: &[u8]) -> Result<(), Refusal>
     requires { 16 ≤ length bytes.now }
     ensures { verdict_of result ≡ first_no (header_questions (sizes_of z) (header_of header) (model_stream stream) bytes.now) }

@@ -8,7 +8,7 @@ ghost use Rattle.calls.specs.Views.{model_side};
 ghost use Rattle.calls.specs.Sides.{side_named};
 ghost use Rattle.receiver_exports.specs.Exported.{words_there, Calls, Plays, Takes, NoneWritten, Exported, SetupExported};
 
-use calls::{DepthCounts, Estimates, ProbeTimes, Settings, Side, Sizes};
+use calls::{DepthCounts, Estimates, OneWayTimes, ProbeTimes, Settings, Side, Sizes};
 use receiver_setup::setup;
 use receiver_state::{Answered, Receiver};
 use receiver_words::state::{leave, leave_setup, receiver_at};
@@ -20,7 +20,8 @@ fn words_there(state: &[u64], answer: &[u64]) -> bool
 }
 
 // Where the words are there: the call at the receiver that the state's words are, and in words what it leaves and answers.
-// (The two calls that write areas stay by themselves: tried, and no fact says that the areas stay where nothing is called.)
+// (The two calls that write areas stay by themselves: tried, and no fact says that the areas stay where nothing is called. Nor
+// do they share a function that lends the areas on to a closure: a play writes a third slice, its output, and a datagram none.)
 fn exported<F: FnOnce(Receiver) -> Answered>(state: &mut [u64], answer: &mut [u64], call: F) -> bool
     requires { F.IsAlwaysCallable call }
     ensures { Exported (F.post call) NoneWritten state.old answer.old state.new answer.new result }
@@ -198,7 +199,7 @@ pub extern "C" fn receiver_one_way(
     ensures { Exported (Calls (one_way receive send) fs.now us.now) NoneWritten state.old answer.old state.new answer.new result }
 {
     exported(state, answer, |r| {
-        receiver::clock::one_way(r, fs, us, receive, send)
+        receiver::clock::one_way(r, fs, us, OneWayTimes { receive, send })
     })
 }
 

@@ -16,7 +16,7 @@ use Rattle.model.specs.Bytes.{part, placed}
 use Rattle.model.specs.Sizes.{sizes_allowed, most_waiting, float_section, word_section, float_area, word_area}
 use Rattle.model.specs.Receiver.{fresh}
 use Rattle.model.specs.Questions.{first_no, areas_long, estimates_finite, setup_questions, set_up, opened_unless, not_opened}
-use Rattle.model.proofs.BoolLaws.{clash, second_of_both}
+use Rattle.model.proofs.BoolLaws.{second_of_both}
 use Rattle.model.proofs.ListLaws.{placed_length}
 use Rattle.calls.specs.declared.Sizes.{Sizes}
 use Rattle.calls.specs.declared.Estimates.{Estimates}
@@ -29,14 +29,14 @@ use Rattle.receiver_state.specs.declared.Receiver.{Receiver}
 use Rattle.receiver_state.specs.Fresh.{FreshReceiver}
 use Rattle.receiver_state.specs.View.{state_of, lent_of}
 use Rattle.receiver_setup.specs.Promises.{pictures_zeroed, SetupAccepted}
-use Rattle.receiver_setup.specs.Setup.{SetupReady, SetupAsked}
+use Rattle.receiver_setup.specs.Setup.{SetupAsked}
 use Rattle.receiver_state.proofs.StateQuestions.{word_area_is}
 
 -- ---- questions 1, 2 and 5
 
 module _ (z : Sizes) (a b : Estimates) (fs : List Float) (us : List ℕ) where
   no_asked : (why : Refusal) → some (refusal_number why) ≡ first_no (setup_questions (lent_of fs us) (model_setup z a b)) → SetupAsked z a b fs us (Err why)
-  no_asked why is = record { asked = is; ready = λ yes. clash (cc) }
+  no_asked why is = record { asked = is; ready = λ yes. cc }
 
   pub setup_sizes_refused : sizes_allowed (sizes_of z) ≡ false → SetupAsked z a b fs us (Err Refusal.Sizes)
   unfolding setup_questions first_no
@@ -58,11 +58,11 @@ module _ (z : Sizes) (a b : Estimates) (fs : List Float) (us : List ℕ) where
 
       pub setup_all_yes : estimates_finite (model_estimates a) && estimates_finite (model_estimates b) ≡ true → SetupAsked z a b fs us (Ok tt)
       unfolding setup_questions first_no
-      setup_all_yes five = record { asked = rw (one, two, five); ready = λ yes. record { allowed = one; words = words_long } }
+      setup_all_yes five = record { asked = rw (one, two, five); ready = λ yes. words_long }
 
 -- ---- the pictures
 
-module _ (z : Sizes) (us : List ℕ) (ready : SetupReady z us) where
+module _ (z : Sizes) (us : List ℕ) (ready : word_area (sizes_of z) ≤ length us) where
   abbrev pixels : ℕ
   pixels = z.width * z.height
 
@@ -75,14 +75,14 @@ module _ (z : Sizes) (us : List ℕ) (ready : SetupReady z us) where
   zeros_length : length zeros ≡ pixels
   zeros_length = length-replicate {A = ℕ} pixels 0
 
-  pub first_fits : most_waiting (sizes_of z) + z.width * z.height ≤ length us
-  first_fits = omega (arith, ready.words, word_area_is (sizes_of z), word_section_is (sizes_of z))
+  first_fits : most_waiting (sizes_of z) + z.width * z.height ≤ length us
+  first_fits = omega (arith, ready, word_area_is (sizes_of z), word_section_is (sizes_of z))
 
   first_length : length first_zeroed ≡ length us
   first_length = placed_length (most_waiting (sizes_of z)) zeros us (rw zeros_length first_fits)
 
   second_fits : word_section (sizes_of z) + most_waiting (sizes_of z) + z.width * z.height ≤ length first_zeroed
-  second_fits = omega (arith, first_length, ready.words, word_area_is (sizes_of z), word_section_is (sizes_of z))
+  second_fits = omega (arith, first_length, ready, word_area_is (sizes_of z), word_section_is (sizes_of z))
 
   zeroed_length : length (pictures_zeroed z us) ≡ length us
   zeroed_length = placed_length (word_section (sizes_of z) + most_waiting (sizes_of z)) zeros first_zeroed (rw zeros_length second_fits) ∙ first_length

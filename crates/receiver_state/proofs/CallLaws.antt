@@ -1,6 +1,6 @@
 -- What makes a call's promise: a refusal by an early or by an own question, and an accepted call whose view is the model's. Assumes nothing.
 use mathlib.Core.Path.{◌≡◌, refl, sym, ◌∙◌, ap}
-use mathlib.Core.Bool.{true, false≢true, true≢false}
+use mathlib.Core.Bool.{true, true≢false}
 use mathlib.Core.Option.{none, some}
 use mathlib.Core.List.{List}
 use Prim.Native.Nat.{ℕ, ◌+◌, ◌*◌, ◌≤◌}
@@ -19,14 +19,14 @@ use Rattle.model.specs.Receiver.{Call, State, StepResult, is_accepted}
 use Rattle.model.specs.Questions.{most_calls, most_added, first_no, areas_long, own_questions, questions, channel_held, held}
 use Rattle.model.specs.Step.{accept, decide, step}
 use Rattle.model.specs.WholeList.{CallBytes}
-use Rattle.model.proofs.BoolLaws.{by_test, clash, first_of_both, second_of_both}
+use Rattle.model.proofs.BoolLaws.{by_test, first_of_both, second_of_both}
 use Rattle.model.proofs.HeldKept.{ChannelShaped, StateShaped, channel_held_more, accept_stays_held}
 use Rattle.model.proofs.Reachable.{accept_one_more}
+use Rattle.model.proofs.PlacedLaws.{part_length}
 use Rattle.calls.specs.declared.Refusal.{Refusal}
 use Rattle.calls.specs.declared.Side.{Side}
 use Rattle.calls.specs.declared.Side.TheVariants.{A, B}
 use Rattle.calls.specs.Views.{sizes_of}
-use Rattle.areas.proofs.Placed.{part_length}
 use Rattle.jitter_buffer.proofs.HeldKept.{WordsFit, view_shaped}
 use Rattle.channel.specs.View.{row_at, channel_in}
 use Rattle.channel.proofs.Sections.{float_section_is, word_section_is}
@@ -48,7 +48,7 @@ early_refusal lent s c n e =
     (λ one. by_test (areas_long lent s.sizes)
     (λ two. by_test (held s)
     (λ three. by_test (ltb s.calls most_calls)
-    (λ four. let no : some n ≡ none = rw (one, two, three, four) at e in clash (cc))
+    (λ four. let no : some n ≡ none = rw (one, two, three, four) at e in cc)
     (λ four. rw (one, two, three, four) (sym (rw (one, two, three, four) at e))))
     (λ three. rw (one, two, three) (sym (rw (one, two, three) at e))))
     (λ two. rw (one, two) (sym (rw (one, two) at e))))
@@ -70,8 +70,8 @@ module _ (r : Receiver) (fs : List Float) (us : List ℕ) where
         refused = λ no. (refl, refl, refl);
         areas = areas_same (sizes_of r.sizes) fs us;
         bytes = bytes;
-        stays_held = λ yes. absurd (false≢true yes);
-        one_more = λ yes. absurd (false≢true yes);
+        stays_held = λ yes. cc;
+        one_more = λ yes. cc;
       }
 
   -- by one of questions 1 to 4

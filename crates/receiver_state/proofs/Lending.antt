@@ -1,12 +1,13 @@
 -- The areas from where a channel's sections begin are lent on, and put back: the channel is ready there, and the other channel is read as before. Assumes nothing.
-use mathlib.Core.Path.{◌≡◌, refl, sym, ◌∙◌, ap}
+use mathlib.Core.Path.{◌≡◌, sym, ◌∙◌, ap}
 use mathlib.Core.List.{List, ◌++◌, append-nil}
 use Prim.Native.Nat.{ℕ, ◌+◌, ◌-◌, ◌≤◌}
 use native.Mathlib.Omega.{arith}
 use lib.ListN.{length, take, drop, length-drop}
-use lib.Seq.{take_all, drop_at, drop-drop, drop-length, length-take-le}
+use lib.Seq.{drop_at, drop-drop, drop-length, length-take-le}
 use lib.Ieee.{Float}
 use borrow.Rule.Slice.PartMut.{put_mid, post_of, take_put, same_len_mid}
+use Rattle.std.proofs.lemmas.List.{take_rest}
 use Rattle.model.specs.Sizes.{most_waiting, float_section, word_section, float_area, word_area}
 use Rattle.model.specs.Receiver as Model
 use Rattle.model.specs.Step.{ChannelResult}
@@ -23,12 +24,9 @@ use Rattle.receiver_state.specs.View.{float_start, word_start, channel_at}
 use Rattle.receiver_state.specs.Fields.{channel_set}
 use Rattle.receiver_state.specs.Promises.{SidesReady, SideTaken}
 use Rattle.receiver_state.proofs.StateQuestions.{float_area_is, word_area_is, float_start_few, word_start_few}
-use Rattle.receiver_state.proofs.SideCalls.{other_side, channel_on, side_step}
+use Rattle.receiver_state.proofs.SideCalls.{other_side, channel_on, side_step, channel_uncounted}
 
 -- ---- the end of a list, lent and put back
-
-pub whole_end : {X : Type 0} (at : ℕ) (xs : List X) → take (length xs - at) (drop at xs) ≡ drop at xs
-whole_end at xs = take_all (length xs - at) (drop at xs) (simp length-drop (omega arith))
 
 pub end_put : {X : Type 0} (at : ℕ) (xs ys : List X) → at ≤ length xs → drop at (put_mid at (length xs - at) xs ys) ≡ ys
 end_put {X} at xs ys inside =
@@ -67,9 +65,8 @@ module _ (r : Receiver) (fs : List Float) (us : List ℕ) (ready : SidesReady r 
       → Channel.Ready r.sizes (channel_at side r) (take (length fs - float_start (sizes_of r.sizes) side) (drop (float_start (sizes_of r.sizes) side) fs))
       (take (length us - word_start (sizes_of r.sizes) side) (drop (word_start (sizes_of r.sizes) side) us))
   channel_ready side =
-      rw (whole_end (float_start (sizes_of r.sizes) side) fs, whole_end (word_start (sizes_of r.sizes) side) us)
+      rw (take_rest fs (float_start (sizes_of r.sizes) side), take_rest us (word_start (sizes_of r.sizes) side))
       (record {
-        allowed = ready.allowed;
         floats = simp length-drop (omega (arith, float_start_few (sizes_of r.sizes) side, float_area_is (sizes_of r.sizes), ready.floats));
         words = simp length-drop (omega (arith, word_start_few (sizes_of r.sizes) side, word_area_is (sizes_of r.sizes), ready.words));
         held = ready.channels side;
@@ -110,8 +107,8 @@ module _ (r : Receiver) (fs : List Float) (us : List ℕ) (ready : SidesReady r 
       → SideTaken side f r fs us a (channel_set side c r) (floats_put side ys vs) (words_put side ys vs)
   sound_taken side f c a ys vs step behind =
       let z = sizes_of r.sizes in
-      let floats = whole_end (float_start z side) fs in
-      let words = whole_end (word_start z side) us in
+      let floats = take_rest fs (float_start z side) in
+      let words = take_rest us (word_start z side) in
       let kept = rw (floats, words) at behind in
       record {
         taken =
@@ -128,9 +125,5 @@ module _ (r : Receiver) (fs : List Float) (us : List ℕ) (ready : SidesReady r 
               end_stays (word_start z side) (most_waiting z) (word_area z) us vs (words_inside side)
               (omega (arith, word_start_few z side, word_area_is z, word_section_is z)) kept.words;
         };
-        uncounted = channel_set_calls_is side c;
+        uncounted = channel_uncounted side c r;
       }
-    where
-      channel_set_calls_is : (side : Side) (c : Channel) → (channel_set side c r).calls ≡ r.calls
-      channel_set_calls_is A c = refl
-      channel_set_calls_is B c = refl

@@ -1,5 +1,5 @@
 -- A call on one channel: the model's call on that side, and the other channel is read as before. Assumes nothing.
-use mathlib.Core.Path.{◌≡◌}
+use mathlib.Core.Path.{◌≡◌, refl}
 use mathlib.Core.Bool.{true}
 use mathlib.Core.Option.{none}
 use mathlib.Core.List.{List}
@@ -52,6 +52,10 @@ module _ (r : Receiver) (fs : List Float) (us : List ℕ) (ready : Ready r fs us
   unfolding accept one_call_more
   side_called c side f a r' fs' us' bytes own accepts is done areas =
       accepted_called r fs us ready words c a (counted r') fs' us' bytes own accepts (rw (is, done)) areas
+
+pub channel_uncounted : (side : Side) (c : Channel) (r : Receiver) → (channel_set side c r).calls ≡ r.calls
+channel_uncounted A c r = refl
+channel_uncounted B c r = refl
 
 pub channel_set_calls : (side : Side) (c : Channel) (r : Receiver) → r.calls < most_calls → (channel_set side c r).calls < most_calls
 channel_set_calls A c r few = few

@@ -14,7 +14,7 @@ use borrow.Author.Tests.{leb-true, lt-ltb, le-ltb}
 use Rattle.model.specs.Sizes as Sizing
 use Rattle.model.specs.Sizes.{sizes_allowed, float_section, word_section, float_area, word_area}
 use Rattle.model.specs.Questions.{most_calls, most_added, first_no, areas_long, channel_held, held}
-use Rattle.model.proofs.BoolLaws.{clash, first_of_both, second_of_both}
+use Rattle.model.proofs.BoolLaws.{first_of_both, second_of_both}
 use Rattle.model.proofs.HeldKept.{NextFits}
 use Rattle.calls.specs.declared.Side.{Side}
 use Rattle.calls.specs.declared.Side.TheVariants.{A, B}
@@ -23,7 +23,7 @@ use Rattle.calls.specs.Views.{sizes_of}
 use Rattle.calls.specs.Refusals.{refusal_number}
 use Rattle.jitter_buffer.specs.View.{next_of}
 use Rattle.channel.specs.View.{channel_in, Inside}
-use Rattle.channel.specs.Promises.{Asked, ChannelAsked}
+use Rattle.channel.specs.Promises.{ChannelAsked}
 use Rattle.receiver_state.specs.declared.Receiver.{Receiver}
 use Rattle.receiver_state.specs.View.{float_start, word_start, channel_at, state_of, lent_of}
 use Rattle.receiver_state.specs.Promises.{early_questions, counts_held, StateAsked, EarlyAsked}
@@ -45,18 +45,18 @@ pub word_start_few : (z : Sizing.Sizes) (side : Side) → word_start z side ≤ 
 word_start_few z A = omega arith
 word_start_few z B = omega arith
 
-module _ (r : Receiver) (us : List ℕ) (allowed : sizes_allowed (sizes_of r.sizes) ≡ true) (words : word_area (sizes_of r.sizes) ≤ length us) where
-  pub a_asked : Asked r.sizes (length us)
-  a_asked = record { allowed = allowed; words_fit = omega (arith, words, word_area_is (sizes_of r.sizes)) }
+-- where sections begin and end, for what is lent of an area
+pub ruleset section_bounds = (float_area_is, word_area_is, float_start_few, word_start_few)
 
+module _ (r : Receiver) (us : List ℕ) (words : word_area (sizes_of r.sizes) ≤ length us) where
   pub section_inside : word_section (sizes_of r.sizes) ≤ length us
   section_inside = omega (arith, words, word_area_is (sizes_of r.sizes))
 
   pub rest_is : take (length us - word_section (sizes_of r.sizes)) (drop (word_section (sizes_of r.sizes)) us) ≡ drop (word_section (sizes_of r.sizes)) us
   rest_is = take_all (length us - word_section (sizes_of r.sizes)) (drop (word_section (sizes_of r.sizes)) us) (simp length-drop (omega arith))
 
-  pub b_asked : Asked r.sizes (length (drop (word_section (sizes_of r.sizes)) us))
-  b_asked = record { allowed = allowed; words_fit = simp length-drop (omega (arith, words, word_area_is (sizes_of r.sizes))) }
+  pub section_behind : word_section (sizes_of r.sizes) ≤ length (drop (word_section (sizes_of r.sizes)) us)
+  section_behind = simp length-drop (omega (arith, words, word_area_is (sizes_of r.sizes)))
 
   abbrev second : List ℕ
   second = drop (word_section (sizes_of r.sizes)) us
@@ -104,7 +104,7 @@ module _ (r : Receiver) (us : List ℕ) (allowed : sizes_allowed (sizes_of r.siz
 
 module _ (r : Receiver) (fs : List Float) (us : List ℕ) where
   no_verdict : (why : Refusal) → some (refusal_number why) ≡ first_no (early_questions (lent_of fs us) (state_of r fs us)) → EarlyAsked r fs us (Err why)
-  no_verdict why is = record { asked = is; ready = λ yes. clash (cc) }
+  no_verdict why is = record { asked = is; ready = λ yes. cc }
 
   pub sizes_refused : false ≡ sizes_allowed (sizes_of r.sizes) → EarlyAsked r fs us (Err Refusal.Sizes)
   unfolding first_no

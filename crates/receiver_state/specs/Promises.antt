@@ -20,7 +20,7 @@ use Rattle.jitter_buffer.specs.View.{next_of}
 use Rattle.reassembler.specs.Rows.{completed_of, CompletedInside}
 use Rattle.channel.specs.View.{channel_in, Inside}
 use Rattle.receiver_state.specs.declared.Receiver.{Receiver}
-use Rattle.receiver_state.specs.declared.sides.RowsShown.{RowsShown}
+use Rattle.reassembler.specs.declared.Pushed.{Pushed}
 use Rattle.receiver_state.specs.View.{state_of, lent_of, float_start, word_start, row_place, channel_at}
 
 -- ---- the calls
@@ -100,6 +100,6 @@ pub record SideTaken (side : Side) (f : Model.Channel → ChannelResult) (r : Re
   pub uncounted : r'.calls ≡ r.calls
 
 -- a waterfall payload: the row that it completed stands at its channel's place, and has 1 to bins values
-pub record RowsTaken (side : Side) (r : Receiver) (fs : List Float) (us payload : List ℕ) (v : RowsShown) (fs' : List Float) (us' : List ℕ) : Type 0 where
-  pub shown : SideTaken side (waterfall_into (sizes_of r.sizes) payload) r fs us (Model.row (completed_of v.completed (drop (row_place (sizes_of r.sizes) side) fs'))) v.receiver fs' us'
+pub record RowsTaken (side : Side) (r : Receiver) (fs : List Float) (us payload : List ℕ) (v : Pushed Receiver) (fs' : List Float) (us' : List ℕ) : Type 0 where
+  pub shown : SideTaken side (waterfall_into (sizes_of r.sizes) payload) r fs us (Model.row (completed_of v.completed (drop (row_place (sizes_of r.sizes) side) fs'))) v.state fs' us'
   pub completed : CompletedInside v.completed r.sizes.bins

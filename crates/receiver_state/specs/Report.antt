@@ -6,10 +6,8 @@ use Rattle.model.specs.Clock.{reading}
 use Rattle.model.specs.Replay.{line, decimal, or_dash, channel_line}
 use Rattle.jitter_buffer.specs.declared.JitterBuffer.{JitterBuffer}
 use Rattle.audio_metrics.specs.Views.{timing_of, delay_of}
-use Rattle.udp.specs.declared.StreamCounts.{StreamCounts}
 use Rattle.receiver_state.specs.declared.Receiver.{Receiver}
 use Rattle.receiver_state.specs.declared.report.SoundReport.{SoundReport}
-use Rattle.receiver_state.specs.declared.report.StreamReport.{StreamReport}
 use Rattle.receiver_state.specs.declared.report.Report.{Report}
 
 -- ---- from a receiver
@@ -27,17 +25,14 @@ sound_in j =
       filled = j.filled;
     }
 
-abbrev pub stream_in : StreamCounts → StreamReport
-stream_in c = record { packets = c.packets; dropped = c.dropped; late = c.late }
-
 abbrev pub report_of : Receiver → Report
 report_of r =
     record {
       a = sound_in r.a.jitter;
       b = sound_in r.b.jitter;
       incoming = r.incoming;
-      audio = stream_in r.audio;
-      waterfall = stream_in r.waterfall;
+      audio = r.audio;
+      waterfall = r.waterfall;
       timing = r.clock.timing;
       one_way = r.clock.one_way;
     }

@@ -8,7 +8,7 @@ use Rattle.model.specs.Receiver as Model
 use Rattle.calls.specs.declared.Side.{Side}
 use Rattle.calls.specs.declared.Side.TheVariants.{A, B}
 use Rattle.calls.specs.declared.Refusal.{Refusal}
-use Rattle.calls.specs.Views.{sizes_of}
+use Rattle.calls.specs.Views.{sizes_of, model_played}
 use Rattle.calls.specs.Refusals.{refusal_number}
 use Rattle.audio_metrics.specs.Views.{clock_of}
 use Rattle.udp.specs.Views.{counts_of}
@@ -66,6 +66,6 @@ lent_of fs us = record { floats = length fs; words = length us }
 abbrev pub answer_of : Result Answer Refusal → List Float → Model.Answer
 answer_of (Err why) values = Model.refused (refusal_number why)
 answer_of (Ok Accepted) values = Model.accepted
-answer_of (Ok (Played taken dropped short)) values = Model.played (record { samples = values; taken = taken; dropped = dropped; short = short })
+answer_of (Ok (Played p)) values = Model.played (model_played p values)
 answer_of (Ok NoRow) values = Model.row none
 answer_of (Ok (Row n)) values = Model.row (some (take n values))

@@ -21,13 +21,16 @@ fn counts_could_be_held(r: Receiver) -> bool
 }
 
 // Question 3: whether a receiver could hold this state.
+#[tactic(auto, using(crate::proofs::StateQuestions::word_area_is))]
 fn could_be_held(r: Receiver, us: &[u32]) -> bool
     requires { (sizes_allowed (sizes_of r.sizes) ≡ true) × (word_area (sizes_of r.sizes) ≤ length us.now) }
     ensures { StateAsked r us.now result }
 {
-    let start = AllowedSizes { sizes: r.sizes }.word_section();
-    r.a.could_be_held(r.sizes, us, r.calls)
-        && r.b.could_be_held(r.sizes, &us[start..], r.calls)
+    // Made anew from the clause: handed on they would need another, that they are the receiver's.
+    let z = AllowedSizes { sizes: r.sizes };
+    let start = z.word_section();
+    r.a.could_be_held(z, us, r.calls)
+        && r.b.could_be_held(z, &us[start..], r.calls)
         && counts_could_be_held(r)
 }
 

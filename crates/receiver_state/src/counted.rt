@@ -1,5 +1,5 @@
-// What a call leaves, refused or not, and a receiver with one part changed. Here alone a refusal is made, and accepted calls
-// and valid headers are counted.
+// What a call leaves, refused or not, and a receiver with one part changed. Here alone it is said what a refusal leaves, and
+// accepted calls and valid headers are counted.
 ghost use Rattle.std.specs.Prelude.{◌≡◌, ◌+◌, ◌<◌, ◌^◌};
 ghost use Rattle.model.specs.Questions.{most_calls};
 ghost use Rattle.receiver_state.specs.declared.Answer.TheVariants.{Accepted};

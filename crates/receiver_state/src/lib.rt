@@ -11,7 +11,7 @@ pub mod report;
 pub mod sides;
 
 use audio_metrics::AudioMetrics;
-use calls::{Estimates, Refusal, Sizes};
+use calls::{Estimates, PlayedSamples, Refusal, Sizes};
 use channel::Channel;
 use udp::StreamCounts;
 
@@ -52,12 +52,7 @@ impl Receiver {
 #[derive(Clone, Copy, PartialEq, Eq, Debug)]
 pub enum Answer {
     Accepted,
-    // A play: samples taken from the queue, dropped before them, and made up behind them.
-    Played {
-        taken: usize,
-        dropped: usize,
-        short: usize,
-    },
+    Played(PlayedSamples),
     // A datagram that completed no row.
     NoRow,
     // A datagram that completed a row of so many bins; row_place tells where they stand.

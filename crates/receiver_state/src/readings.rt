@@ -14,6 +14,7 @@ use sizes::AllowedSizes;
 
 // Where a channel's row begins in the f32 area: the values of a completed row stand there. Sizes that question 1 refuses have
 // no places.
+#[tactic(auto, using(crate::proofs::Reading::float_start_bound, crate::proofs::Reading::row_at_bound))]
 pub fn row_place(z: Sizes, side: Side) -> Option<usize>
     ensures { result ≡ place_in z (row_place (sizes_of z) side) }
 {
@@ -24,6 +25,7 @@ pub fn row_place(z: Sizes, side: Side) -> Option<usize>
 
 // Where a channel's picture begins in the u32 area: width × height colours, the top row first.
 // Sizes that question 1 refuses have no places.
+#[tactic(auto, using(crate::proofs::Reading::word_start_bound, sizes::proofs::Bounds::most_waiting_bound))]
 pub fn picture_place(z: Sizes, side: Side) -> Option<usize>
     ensures { result ≡ place_in z (picture_place (sizes_of z) side) }
 {

@@ -14,6 +14,7 @@ ghost use Rattle.receiver_state.specs.Promises.{SidesReady, SideTaken, RowsTaken
 use crate::Receiver;
 use calls::Side;
 use channel::Channel;
+use reassembler::Pushed;
 use sizes::AllowedSizes;
 
 // Where a channel's sections begin in the two areas.
@@ -58,6 +59,9 @@ pub fn with_channel(r: Receiver, side: Side, channel: Channel) -> Receiver
 }
 
 // An audio payload of a channel, before the call is counted.
+// (Here and below the allowed sizes are made anew from the clause: handed on they would be one parameter more, and a clause
+// more, that they are the receiver's.)
+#[tactic(auto, using(crate::proofs::StateQuestions::section_bounds))]
 pub fn audio_on(
     r: Receiver,
     fs: &mut [f32],
@@ -69,9 +73,10 @@ pub fn audio_on(
     requires { SidesReady r fs.old us.old }
     ensures { SideTaken side (audio_into (sizes_of r.sizes) sequence payload.now) r fs.old us.old (row none) result fs.new us.new }
 {
-    let begin = starts(AllowedSizes { sizes: r.sizes }, side);
+    let z = AllowedSizes { sizes: r.sizes };
+    let begin = starts(z, side);
     let channel = channel_of(r, side).audio(
-        r.sizes,
+        z,
         &mut fs[begin.floats..],
         &mut us[begin.words..],
         sequence,
@@ -80,38 +85,30 @@ pub fn audio_on(
     with_channel(r, side, channel)
 }
 
-// What a waterfall payload leaves, and the bins of the row that it completed, if it did.
-#[derive(Clone, Copy)]
-pub struct RowsShown {
-    pub receiver: Receiver,
-    pub completed: Option<usize>,
-}
-
-// A waterfall payload of a channel, before the call is counted. What is lent ends with the work section.
+// A waterfall payload of a channel, before the call is counted. The work section, behind both channels', is lent by itself.
+#[tactic(auto, using(crate::proofs::StateQuestions::section_bounds))]
 pub fn waterfall_on(
     r: Receiver,
     fs: &mut [f32],
     us: &mut [u32],
     side: Side,
     payload: &[u8],
-) -> RowsShown
+) -> Pushed<Receiver>
     requires { SidesReady r fs.old us.old × (total_allowed (sizes_of r.sizes) payload.now ≡ true) }
     ensures { RowsTaken side r fs.old us.old payload.now result fs.new us.new }
 {
-    let z = r.sizes;
-    let sizes = AllowedSizes { sizes: z };
-    let begin = starts(sizes, side);
-    let twice = 2 * sizes.float_section();
-    let end = twice + z.bins;
+    let z = AllowedSizes { sizes: r.sizes };
+    let begin = starts(z, side);
+    let (sections, work) = fs.split_at_mut(2 * z.float_section());
     let shown = channel_of(r, side).waterfall(
         z,
-        &mut fs[begin.floats..end],
-        twice - begin.floats,
+        &mut sections[begin.floats..],
         &mut us[begin.words..],
+        &mut work[..z.sizes.bins],
         payload,
     );
-    RowsShown {
-        receiver: with_channel(r, side, shown.channel),
+    Pushed {
+        state: with_channel(r, side, shown.state),
         completed: shown.completed,
     }
 }

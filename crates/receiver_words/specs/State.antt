@@ -11,6 +11,7 @@ use Rattle.audio_metrics.specs.Views.{clock_of}
 use Rattle.audio_metrics_words.specs.Words.{clock_in, clock_words}
 use Rattle.calls.specs.declared.Refusal.{Refusal}
 use Rattle.calls.specs.Refusals.{refusal_number}
+use Rattle.calls.specs.Views.{size_numbers, play_words}
 use Rattle.channel.specs.declared.Channel.{Channel}
 use Rattle.receiver_state.specs.declared.Receiver.{Receiver}
 use Rattle.receiver_state.specs.declared.Answer.{Answer}
@@ -38,10 +39,7 @@ clock_back k =
       timing = timing_back k.timing;
       one_way = delay_back k.one_way;
       jitter = depth_back k.depth;
-      conceals = k.counts.conceals;
-      late = k.counts.late;
-      overflow = k.counts.overflow;
-      resyncs = k.counts.resyncs;
+      counts = record { conceals = k.counts.conceals; late = k.counts.late; overflow = k.counts.overflow; resyncs = k.counts.resyncs };
       tx_ring_peak_ms = k.transmit_peak;
     }
 
@@ -67,9 +65,7 @@ receiver_at w =
 
 -- the six sizes, the accepted calls, and the datagrams with a valid header
 abbrev pub head_words : Receiver → List ℕ
-head_words r =
-    r.sizes.packet ∷ r.sizes.target ∷ r.sizes.max ∷ r.sizes.bins ∷ r.sizes.width ∷ r.sizes.height ∷ r.calls ∷ r.incoming
-    ∷ []
+head_words r = size_numbers r.sizes ++ r.calls ∷ r.incoming ∷ []
 
 unfoldable pub channel_words : Channel → List ℕ
 channel_words c = buffer_words c.jitter ++ screen_words c.screen
@@ -85,7 +81,7 @@ receiver_words r =
 abbrev pub answer_words : Result Answer Refusal → List ℕ
 answer_words (Err why) = 0 ∷ refusal_number why ∷ 0 ∷ 0 ∷ []
 answer_words (Ok Accepted) = 1 ∷ 0 ∷ 0 ∷ 0 ∷ []
-answer_words (Ok (Played taken dropped short)) = 2 ∷ taken ∷ dropped ∷ short ∷ []
+answer_words (Ok (Played p)) = 2 ∷ play_words p
 answer_words (Ok NoRow) = 3 ∷ 0 ∷ 0 ∷ 0 ∷ []
 answer_words (Ok (Row n)) = 4 ∷ n ∷ 0 ∷ 0 ∷ []
 

@@ -11,7 +11,5 @@ pub fn clock_from(w: &[u64]) -> AudioMetrics
     requires { 14 ≤ length w.now }
     ensures { clock_of result ≡ clock_in w.now }
 {
-    from_words(&[
-        w[0], w[1], w[2], w[3], w[4], w[5], w[6], w[7], w[8], w[9], w[10], w[11], w[12], w[13],
-    ])
+    from_words(w.first_chunk().unwrap())
 }

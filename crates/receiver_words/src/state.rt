@@ -1,7 +1,7 @@
 // A receiver in words, and its answers.
 ghost use Rattle.std.specs.Prelude.{◌≡◌, ◌≤◌, length};
 ghost use Rattle.std.proofs.lemmas.List.Edits.{sets};
-ghost use Rattle.receiver_words.specs.State.{channel_read, receiver_at, head_words, receiver_words, answer_words, state_left, setup_words, setup_left};
+ghost use Rattle.receiver_words.specs.State.{channel_read, receiver_at, receiver_words, answer_words, state_left, setup_words, setup_left};
 
 use crate::clock::clock_from;
 use crate::words::{
@@ -41,28 +41,13 @@ pub fn receiver_at(w: &[u64]) -> Receiver
     }
 }
 
-fn head_words(r: Receiver) -> [u64; 8]
-    ensures { result ≡ head_words r }
-{
-    let z = r.sizes;
-    [
-        z.packet as u64,
-        z.target as u64,
-        z.max as u64,
-        z.bins as u64,
-        z.width as u64,
-        z.height as u64,
-        r.calls,
-        r.incoming,
-    ]
-}
-
 // The words behind the 90th stay as they are.
 fn write_receiver(w: &mut [u64], r: Receiver)
     requires { 90 ≤ length w.old }
     ensures { w.new ≡ sets w.old 0 (receiver_words r) }
 {
-    put(w, 0, &head_words(r));
+    put(w, 0, &r.sizes.numbers());
+    put(w, 6, &[r.calls, r.incoming]);
     put(w, 8, &count_words(r.audio));
     put(w, 13, &count_words(r.waterfall));
     put(w, 18, &buffer_words(r.a.jitter));
@@ -78,13 +63,10 @@ fn answer_words(answer: Result<Answer, Refusal>) -> [u64; 4]
     match answer {
         Err(why) => [0, why.number() as u64, 0, 0],
         Ok(Answer::Accepted) => [1, 0, 0, 0],
-        Ok(
-            Answer::Played {
-                taken,
-                dropped,
-                short,
-            },
-        ) => [2, taken as u64, dropped as u64, short as u64],
+        Ok(Answer::Played(p)) => {
+            let [taken, dropped, short] = p.words();
+            [2, taken, dropped, short]
+        }
         Ok(Answer::NoRow) => [3, 0, 0, 0],
         Ok(Answer::Row(n)) => [4, n as u64, 0, 0],
     }

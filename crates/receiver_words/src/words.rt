@@ -1,4 +1,5 @@
-// Sizes, a stream's counts, a jitter buffer and a screen in words.
+// Sizes, a stream's counts, a jitter buffer and a screen in words. (Words are read by their place: of an array of their length
+// each would be named twice, there and as the field.)
 ghost use Rattle.std.specs.Prelude.{◌≡◌, ◌≤◌, length};
 ghost use Rattle.receiver_words.specs.Words.{sizes_in, sequence_in, counts_in, buffer_in, row_in, display_in, screen_in, known_word, sequence_word, count_words, buffer_words, row_words, screen_words};
 
@@ -160,7 +161,7 @@ pub fn screen_from(w: &[u64]) -> Screen
     }
 }
 
-// No `map_or`: tried, and its closure, which makes an array, promised nothing that the proof could use.
+// A match: map_or takes a clause at its closure, which says the array again.
 fn row_words(row: Option<OpenRow>) -> [u64; 5]
     ensures { result ≡ row_words row }
 {

@@ -3,6 +3,8 @@ use receiver_state::Receiver;
 use replaying::acting::act;
 use tape::reader::call_at;
 use tape::{Call, FIRST_CALL};
+use udp_framing::StreamType;
+use udp_framing::big_endian::BigEndian;
 
 // Where a round stands: the receiver, the next call's place, and the audio datagrams so far.
 #[derive(Clone, Copy)]
@@ -32,13 +34,13 @@ fn number(datagram: &mut [u8], sequence: u32, row: u16) -> u32 {
     if datagram.len() < 18 {
         return sequence;
     }
-    match datagram[3] {
-        1 => {
-            datagram[4..8].copy_from_slice(&sequence.to_be_bytes());
+    match StreamType::try_from(datagram[3]) {
+        Ok(StreamType::Audio) => {
+            sequence.write_to(datagram, 4);
             sequence.wrapping_add(1)
         }
-        2 => {
-            datagram[16..18].copy_from_slice(&row.to_be_bytes());
+        Ok(StreamType::Waterfall) => {
+            row.write_to(datagram, 16);
             sequence
         }
         _ => sequence,
@@ -46,6 +48,7 @@ fn number(datagram: &mut [u8], sequence: u32, row: u16) -> u32 {
 }
 
 // Makes the next call, numbered. None where no call comes after it.
+#[inline(always)]
 fn turn(t: Standing, tape: &mut [u8], row: u16, areas: &mut Areas) -> Option<Standing> {
     let placed = call_at(tape, t.place).ok()??;
     let sequence = match placed.call {
@@ -62,7 +65,8 @@ fn turn(t: Standing, tape: &mut [u8], row: u16, areas: &mut Areas) -> Option<Sta
     })
 }
 
-// All calls of the tape once. There are no more of them than bytes.
+// All calls of the tape once. There are no more of them than bytes. (No `while`: that each call takes words is a law and two files
+// of proof for its measure.)
 fn round(begun: Standing, tape: &mut [u8], row: u16, areas: &mut Areas) -> Standing {
     let mut t = begun;
     for _ in 0..tape.len() {

@@ -6,9 +6,6 @@ use playback_pieces::{Stop, pieces};
 use std::io;
 use tape::{Call, Placed};
 
-// No place of a tape is behind it.
-const EVERY_PLACE: usize = usize::MAX;
-
 // What is lent to a replay but for the samples. (No const parameters: the areas of the other programs have samples too.)
 #[derive(Drop)]
 pub struct Areas {
@@ -34,7 +31,7 @@ fn steps(
             &mut areas.fs,
             &mut areas.us,
             tape,
-            EVERY_PLACE,
+            None,
             samples,
             &mut areas.text,
             Form::Full,
@@ -66,8 +63,8 @@ fn asked_at(tape: &[u8], place: usize) -> usize {
         Ok(
             Some(
                 Placed {
-                    call: Call::Play { side: _, samples },
-                    next: _,
+                    call: Call::Play { samples, .. },
+                    ..
                 },
             ),
         ) => samples as usize,

@@ -5,8 +5,8 @@ use playback_opening::NotBegun;
 use playback_opening::limits::begin_limited;
 use playback_parts::Playback;
 
-// What is lent to a replay: it holds anything, and then what the tape before has left there. (No const
-// parameters: the areas of the other programs have no samples, or no text.)
+// What is lent to a replay: it holds anything, and then what the tape before has left there. (Not one type with that of `play`, by
+// const parameters: it would take a library, and four numbers in each program, for six lines.)
 #[derive(Drop)]
 pub struct Areas {
     pub fs: [f32; 16384],

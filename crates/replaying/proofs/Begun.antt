@@ -1,20 +1,22 @@
 -- Each answer's line, from its beginning and what is left of it. Assumes nothing.
 use Prim.Native.Nat.{ℕ, ◌≤◌}
-use mathlib.Core.Path.{◌≡◌, refl, sym, ◌∙◌}
-use mathlib.Core.List.{List, [], ◌∷◌, ◌++◌, map, append-nil}
+use mathlib.Core.Path.{◌≡◌, refl, sym}
+use mathlib.Core.List.{List, [], ◌++◌, append-nil}
 use native.Mathlib.Omega.{arith}
 use lib.ListN.{length}
 use lib.Ieee.{Float}
 use Rattle.std.proofs.Common.{Option, Some, Result, Ok, Err}
 use Rattle.model.specs.Framing.{Side}
-use Rattle.model.specs.Replay.{decimal, line, answer_line}
+use Rattle.model.specs.Replay.{refused_line, answer_line}
+use Rattle.calls.specs.declared.PlayedSamples.{PlayedSamples}
 use Rattle.calls.specs.declared.Refusal.{Refusal}
 use Rattle.calls.specs.Refusals.{refusal_number}
-use Rattle.text.proofs.WrittenLaws.{none_placed}
+use Rattle.calls.specs.Views.{play_words, model_played}
+use Rattle.model.proofs.PlacedLaws.{none_placed}
 use Rattle.lines.specs.Lines.{head, Piece}
-use Rattle.lines.proofs.Pieces.{piece_length, piece_target, play_line_pieces, row_line_pieces, refused_line_is}
+use Rattle.lines.proofs.Pieces.{piece_length, piece_target, play_line_pieces, row_line_pieces}
 use Rattle.receiver_state.specs.declared.Answer.{Answer}
-use Rattle.receiver_state.specs.declared.Answer.TheVariants.{Accepted, Played, NoRow, Row}
+use Rattle.receiver_state.specs.declared.Answer.TheVariants.{Played, Row}
 use Rattle.receiver_state.specs.View.{answer_of}
 use Rattle.replaying.specs.declared.printing.Left.{Left}
 use Rattle.replaying.specs.declared.printing.Left.TheVariants.{Nothing, Samples, Values}
@@ -28,28 +30,20 @@ piece_begun {most} {written} {text} {entry} side a left left_is room piece answe
     record { text = text; written = piece_length piece room answered; target = piece_target piece room; left = left_is; line = is }
 
 module _ (side : Side) {written : ℕ} {entry exit : List ℕ} {p : Option ℕ} (room : 66 ≤ length entry) (answered : p ≡ Some written) where
-  pub refused_begun : (why : Refusal) → Piece 23 (line 88 (map decimal (refusal_number why ∷ []))) entry exit p
-      → LineBegun side (Err why) entry exit (record { written = written; left = Nothing })
+  pub refused_begun : (why : Refusal) → Piece 23 (refused_line (refusal_number why)) entry exit p → LineBegun side (Err why) entry exit (record { written = written; left = Nothing })
   unfolding answer_line
   refused_begun why piece =
-      piece_begun side (Err why) Nothing refl (omega arith) piece answered (λ values. refused_line_is (refusal_number why) ∙ sym (append-nil _))
+      piece_begun side (Err why) Nothing refl (omega arith) piece answered (λ values. sym (append-nil _))
 
-  pub played_begun : (taken dropped short : ℕ) → Piece 66 (head 80 side (taken ∷ dropped ∷ short ∷ [])) entry exit p
-      → LineBegun side (Ok (Played taken dropped short)) entry exit (record { written = written; left = Samples })
+  pub played_begun : (n : PlayedSamples) → Piece 66 (head 80 side (play_words n)) entry exit p → LineBegun side (Ok (Played n)) entry exit (record { written = written; left = Samples })
   unfolding answer_line
-  played_begun taken dropped short piece =
-      piece_begun side (Ok (Played taken dropped short)) Samples refl room piece answered
-      (λ values. play_line_pieces side (record { samples = values; taken = taken; dropped = dropped; short = short }))
+  played_begun n piece = piece_begun side (Ok (Played n)) Samples refl room piece answered (λ values. play_line_pieces side (model_played n values))
 
   pub row_begun : (n : ℕ) → Piece 3 (head 87 side []) entry exit p → LineBegun side (Ok (Row n)) entry exit (record { written = written; left = Values n })
   unfolding answer_line
   row_begun n piece = piece_begun side (Ok (Row n)) (Values n) refl (omega arith) piece answered (λ values. row_line_pieces side _)
 
--- answers without a line
-pub accepted_begun : (side : Side) (entry : List ℕ) → LineBegun side (Ok Accepted) entry entry (record { written = 0; left = Nothing })
-unfolding answer_line
-accepted_begun side entry = record { text = []; written = refl; target = sym (none_placed 0 entry); left = refl; line = λ values. refl }
-
-pub no_row_begun : (side : Side) (entry : List ℕ) → LineBegun side (Ok NoRow) entry entry (record { written = 0; left = Nothing })
-unfolding answer_line
-no_row_begun side entry = record { text = []; written = refl; target = sym (none_placed 0 entry); left = refl; line = λ values. refl }
+-- an answer without a line
+pub none_begun : (side : Side) (entry : List ℕ) (a : Result Answer Refusal) → left_behind a ≡ Nothing → ((values : List Float) → answer_line side (answer_of a values) ≡ [])
+    → LineBegun side a entry entry (record { written = 0; left = Nothing })
+none_begun side entry a left line = record { text = []; written = refl; target = sym (none_placed 0 entry); left = sym left; line = line }

@@ -1,12 +1,12 @@
 -- How a call's line begins, and what is left of it. Assumes nothing.
-use Rattle.std.specs.Prelude.{ℕ, ◌≡◌, List, [], ◌∷◌, ◌++◌, map, length, take, Float, Result, Ok, Err}
+use Rattle.std.specs.Prelude.{ℕ, ◌≡◌, List, [], ◌∷◌, ◌++◌, map, length, take, Float, Result, Ok}
 use Rattle.model.specs.Bytes.{placed}
 use Rattle.model.specs.Framing.{Side}
 use Rattle.model.specs.Replay.{hex_bits, answer_line}
 use Rattle.calls.specs.declared.Refusal.{Refusal}
 use Rattle.lines.specs.Lines.{spaced}
 use Rattle.receiver_state.specs.declared.Answer.{Answer}
-use Rattle.receiver_state.specs.declared.Answer.TheVariants.{Accepted, Played, NoRow, Row}
+use Rattle.receiver_state.specs.declared.Answer.TheVariants.{Played, Row}
 use Rattle.receiver_state.specs.View.{answer_of}
 use Rattle.replaying.specs.declared.printing.Left.{Left}
 use Rattle.replaying.specs.declared.printing.Left.TheVariants.{Nothing, Samples, Values}
@@ -24,11 +24,9 @@ left_of (Values n) values = values_ended (take n values)
 
 -- a play has its samples left, and a row its values
 abbrev pub left_behind : Result Answer Refusal → Left
-left_behind (Err why) = Nothing
-left_behind (Ok Accepted) = Nothing
-left_behind (Ok (Played taken dropped short)) = Samples
-left_behind (Ok NoRow) = Nothing
+left_behind (Ok (Played p)) = Samples
 left_behind (Ok (Row n)) = Values n
+left_behind _ = Nothing
 
 -- a line's beginning stands at the front, and with what is left it is the line of the answer
 pub record LineBegun (side : Side) (a : Result Answer Refusal) (entry exit : List ℕ) (b : Begun) : Type 0 where

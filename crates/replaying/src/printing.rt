@@ -30,31 +30,17 @@ pub fn begin_line(text: &mut [u8], side: Side, answer: Result<Answer, Refusal>) 
 {
     match answer {
         Err(why) => Begun {
-            written: lines::put_line(text, b'X', &[why.number() as u64]).unwrap(),
+            written: lines::put_refusal(text, why).unwrap(),
             left: Left::Nothing,
         },
         Ok(Answer::Accepted | Answer::NoRow) => Begun {
             written: 0,
             left: Left::Nothing,
         },
-        Ok(
-            Answer::Played {
-                taken,
-                dropped,
-                short,
-            },
-        ) => {
-            let head = lines::put_head(
-                text,
-                b'P',
-                side,
-                &[taken as u64, dropped as u64, short as u64],
-            );
-            Begun {
-                written: head.unwrap(),
-                left: Left::Samples,
-            }
-        }
+        Ok(Answer::Played(p)) => Begun {
+            written: lines::put_head(text, b'P', side, &p.words()).unwrap(),
+            left: Left::Samples,
+        },
         Ok(Answer::Row(n)) => Begun {
             written: lines::put_head(text, b'W', side, &[]).unwrap(),
             left: Left::Values(n),

@@ -42,7 +42,7 @@ pub struct AllowedSizes {
 }
 
 impl AllowedSizes {
-    // These sizes, if question 1 is answered with yes.
+    // These sizes, if question 1 is answered with yes. (No `TryFrom`: half of the callers want what this answers, and not the refusal.)
     pub fn of(z: Sizes) -> Option<AllowedSizes>
         ensures { MatchOption result (sizes_allowed (sizes_of z) ≡ false) (λ a. (a.sizes ≡ z) × (sizes_allowed (sizes_of z) ≡ true)) }
     {
@@ -54,44 +54,14 @@ impl AllowedSizes {
     }
 
     // The most packets that wait: max / packet, rounded up.
-    #[tactic(auto, using(model::proofs::SizeLaws::allowed))]
+    #[tactic(auto, using(model::proofs::SizeLaws::allowed, crate::proofs::Bounds::rounded_up), unfolding(model::specs::Sizes::most_waiting))]
     pub fn most_waiting(self) -> usize
         ensures { result ≡ most_waiting (sizes_of self.sizes) }
     {
         self.sizes.max.div_ceil(self.sizes.packet)
     }
 
-    // The places of the f32 section of one channel.
-    pub fn float_section(self) -> usize
-        ensures { result ≡ float_section (sizes_of self.sizes) }
-    {
-        let z = self.sizes;
-        self.most_waiting() * z.packet + (z.target + z.packet) + 3 * z.bins
-    }
-
-    // The places of the u32 section of one channel.
-    pub fn word_section(self) -> usize
-        ensures { result ≡ word_section (sizes_of self.sizes) }
-    {
-        let z = self.sizes;
-        self.most_waiting() + z.width * z.height
-    }
-
-    // The f32 area: both channels' sections, and a work section of bins.
-    pub fn float_area(self) -> usize
-        ensures { result ≡ float_area (sizes_of self.sizes) }
-    {
-        let z = self.sizes;
-        2 * self.float_section() + z.bins
-    }
-
-    // The u32 area: both channels' sections.
-    pub fn word_area(self) -> usize
-        ensures { result ≡ word_area (sizes_of self.sizes) }
-    {
-        2 * self.word_section()
-    }
-
+    #[tactic(auto, using(model::proofs::SizeLaws::allowed, crate::proofs::Bounds::waiting_samples_few), unfolding(crate::specs::View::queue_at))]
     pub fn section_offsets(self) -> Offsets
         ensures { result ≡ offsets_of (sizes_of self.sizes) }
     {
@@ -106,5 +76,39 @@ impl AllowedSizes {
             smoothing: row + 2 * z.bins,
             picture: most,
         }
+    }
+
+    // The places of the f32 section of one channel.
+    #[tactic(auto, using(model::proofs::SizeLaws::allowed, crate::proofs::Bounds::waiting_samples_few), unfolding(crate::specs::View::queue_at, model::specs::Sizes::float_section))]
+    pub fn float_section(self) -> usize
+        ensures { result ≡ float_section (sizes_of self.sizes) }
+    {
+        self.section_offsets().row + 3 * self.sizes.bins
+    }
+
+    // The places of the u32 section of one channel.
+    #[tactic(auto, using(crate::proofs::Bounds::picture_small, crate::proofs::Bounds::most_waiting_bound), unfolding(model::specs::Sizes::word_section))]
+    pub fn word_section(self) -> usize
+        ensures { result ≡ word_section (sizes_of self.sizes) }
+    {
+        let z = self.sizes;
+        self.most_waiting() + z.width * z.height
+    }
+
+    // The f32 area: both channels' sections, and a work section of bins.
+    #[tactic(auto, using(model::proofs::SizeLaws::allowed, crate::proofs::Bounds::float_section_bound), unfolding(model::specs::Sizes::float_area))]
+    pub fn float_area(self) -> usize
+        ensures { result ≡ float_area (sizes_of self.sizes) }
+    {
+        let z = self.sizes;
+        2 * self.float_section() + z.bins
+    }
+
+    // The u32 area: both channels' sections.
+    #[tactic(auto, using(crate::proofs::Bounds::word_section_bound), unfolding(model::specs::Sizes::word_area))]
+    pub fn word_area(self) -> usize
+        ensures { result ≡ word_area (sizes_of self.sizes) }
+    {
+        2 * self.word_section()
     }
 }

@@ -4,20 +4,25 @@ use mathlib.Core.Path.{◌≡◌, refl, sym, ap}
 use mathlib.Core.List.{List, [], ◌∷◌, ◌++◌, map}
 use native.Mathlib.Omega.{arith}
 use lib.ListN.{length, set}
+use lib.Ieee.{Float}
 use borrow.Author.Tests.{le-leb}
-use Rattle.std.proofs.Common.{Option, Some, Ok, Err}
+use Rattle.std.proofs.Common.{Option, Some, Result, Ok, Err}
 use Rattle.model.specs.Framing.{Side}
-use Rattle.model.specs.Replay.{decimal, line, side_letter}
+use Rattle.model.specs.Replay.{decimal, line, refused_line, side_letter}
 use Rattle.model.specs.Summary.{play_summary, row_summary, answer_summary}
 use Rattle.model.proofs.ListLaws.{placed_length}
+use Rattle.calls.specs.declared.PlayedSamples.{PlayedSamples}
 use Rattle.calls.specs.declared.Refusal.{Refusal}
 use Rattle.calls.specs.Refusals.{refusal_number}
+use Rattle.calls.specs.Views.{play_words}
 use Rattle.text.proofs.FittedLaws.{Fitted, fitted_behind}
-use Rattle.text.proofs.WrittenLaws.{none_placed}
+use Rattle.model.proofs.PlacedLaws.{none_placed}
 use Rattle.lines.specs.Lines.{head, Piece}
 use Rattle.lines.proofs.WordLaws.{rest_is_spaced}
-use Rattle.lines.proofs.Pieces.{byte_fitted, refused_line_is}
-use Rattle.receiver_state.specs.declared.Answer.TheVariants.{Accepted, Played, NoRow, Row}
+use Rattle.lines.proofs.Pieces.{byte_fitted}
+use Rattle.receiver_state.specs.declared.Answer.{Answer}
+use Rattle.receiver_state.specs.declared.Answer.TheVariants.{Played, Row}
+use Rattle.receiver_state.specs.View.{answer_of}
 use Rattle.playback_parts.specs.Parts.{TextPut}
 use Rattle.playback_parts.proofs.Texts.{piece_put}
 use Rattle.summary_lines.specs.Summaries.{SummaryPut}
@@ -57,28 +62,19 @@ module _ (letter : ℕ) (side : Side) (numbers : List ℕ) where
 -- ---- each answer
 
 module _ (side : Side) {entry exit : List ℕ} {bytes : ℕ} where
-  pub refused_put : (why : Refusal) (count : ℕ) → TextPut (line 88 (map decimal (refusal_number why ∷ []))) entry exit bytes
-      → SummaryPut side (Err why) count entry exit bytes
+  pub refused_put : (why : Refusal) (count : ℕ) → TextPut (refused_line (refusal_number why)) entry exit bytes → SummaryPut side (Err why) count entry exit bytes
   unfolding answer_summary
-  refused_put why count put = record { text = line 88 (map decimal (refusal_number why ∷ [])); put = put; line = λ values has. refused_line_is (refusal_number why) }
+  refused_put why count put = record { text = refused_line (refusal_number why); put = put; line = λ values has. refl }
 
-  pub play_put : (taken dropped short count : ℕ) → TextPut (line 80 (words 80 side (taken ∷ dropped ∷ short ∷ []))) entry exit bytes
-      → SummaryPut side (Ok (Played taken dropped short)) count entry exit bytes
+  pub play_put : (n : PlayedSamples) (count : ℕ) → TextPut (line 80 (words 80 side (play_words n))) entry exit bytes → SummaryPut side (Ok (Played n)) count entry exit bytes
   unfolding answer_summary play_summary
-  play_put taken dropped short count put = record { text = line 80 (words 80 side (taken ∷ dropped ∷ short ∷ [])); put = put; line = λ values has. refl }
+  play_put n count put = record { text = line 80 (words 80 side (play_words n)); put = put; line = λ values has. refl }
 
   pub row_put : (n count : ℕ) → TextPut (line 87 (words 87 side (count ∷ []))) entry exit bytes → SummaryPut side (Ok (Row n)) count entry exit bytes
   unfolding answer_summary row_summary
   row_put n count put = record { text = line 87 (words 87 side (count ∷ [])); put = put; line = λ values has. rw has }
 
--- answers without a line
-none_put : (entry : List ℕ) → TextPut [] entry entry 0
-none_put entry = record { length_is = refl; target = sym (none_placed 0 entry) }
-
-pub accepted_put : (side : Side) (count : ℕ) (entry : List ℕ) → SummaryPut side (Ok Accepted) count entry entry 0
-unfolding answer_summary
-accepted_put side count entry = record { text = []; put = none_put entry; line = λ values has. refl }
-
-pub no_row_put : (side : Side) (count : ℕ) (entry : List ℕ) → SummaryPut side (Ok NoRow) count entry entry 0
-unfolding answer_summary
-no_row_put side count entry = record { text = []; put = none_put entry; line = λ values has. refl }
+-- an answer without a line
+pub none_put : (side : Side) (count : ℕ) (entry : List ℕ) (a : Result Answer Refusal) → ((values : List Float) → answer_summary side (answer_of a values) ≡ [])
+    → SummaryPut side a count entry entry 0
+none_put side count entry a line = record { text = []; put = record { length_is = refl; target = sym (none_placed 0 entry) }; line = λ values has. line values }

@@ -32,20 +32,9 @@ pub fn put_summary(
     ensures { SummaryPut (model_side side) answer values text.old text.new result }
 {
     match answer {
-        Err(why) => lines::put_line(text, b'X', &[why.number() as u64]).unwrap(),
+        Err(why) => lines::put_refusal(text, why).unwrap(),
         Ok(Answer::Accepted | Answer::NoRow) => 0,
-        Ok(
-            Answer::Played {
-                taken,
-                dropped,
-                short,
-            },
-        ) => put_numbered(
-            text,
-            b'P',
-            side,
-            &[taken as u64, dropped as u64, short as u64],
-        ),
+        Ok(Answer::Played(p)) => put_numbered(text, b'P', side, &p.words()),
         Ok(Answer::Row(_)) => put_numbered(text, b'W', side, &[values as u64]),
     }
 }

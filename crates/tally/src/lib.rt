@@ -42,6 +42,21 @@ impl Tally {
     }
 }
 
+// As the line that sums up: where some differ, how many of how many.
+impl Display for Tally {
+    ghost use Rattle.tally.specs.Sums.{tally_text};
+
+    ghost output = { tally_text };
+
+    fn fmt<W: fmt::Write>(&self, f: &mut fmt::Formatter<W>) -> fmt::Result {
+        if self.different == 0 {
+            write!(f, "all {} vectors equal", self.seen)
+        } else {
+            write!(f, "{} of {} vectors differ", self.different, self.seen)
+        }
+    }
+}
+
 // A tally as a line has it: that all vectors are equal, or else what is said where some differ.
 #[derive(Drop)]
 pub struct Sum<D> {
@@ -56,7 +71,7 @@ impl<D: Display> Display for Sum<D> {
 
     fn fmt<W: fmt::Write>(&self, f: &mut fmt::Formatter<W>) -> fmt::Result {
         if self.tally.different == 0 {
-            write!(f, "all {} vectors equal", self.tally.seen)
+            self.tally.fmt(f)
         } else {
             self.otherwise.fmt(f)
         }

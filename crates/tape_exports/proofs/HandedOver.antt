@@ -1,63 +1,30 @@
 -- What an export hands over, from what the function that it calls promises. Assumes nothing.
-use Prim.Native.Nat.{ℕ, suc, ◌+◌, ◌^◌, ◌<◌}
-use mathlib.Core.Path.{◌≡◌, refl, ap, ◌∙◌}
+use Prim.Native.Nat.{ℕ, ◌^◌, ◌<◌}
+use mathlib.Core.Path.{◌≡◌, ap, ◌∙◌}
 use mathlib.Core.Bool.{true}
-use mathlib.Core.List.{List, [], ◌∷◌}
-use native.Mathlib.Omega.{arith}
-use lib.ListN.{length, set}
-use lib.Seq.{sets}
+use mathlib.Core.List.{List}
+use lib.ListN.{length}
 use Rattle.model.specs.Receiver as Receiver
 use Rattle.model.specs.Bytes.{all}
 use Rattle.model.specs.Receiver.{Call}
 use Rattle.model.specs.Tape.{read, put_call, put_setup, put_end}
 use Rattle.model.proofs.BytesLaws.{is_byte}
-use Rattle.std.specs.Prelude.{Result, Ok, Err}
+use Rattle.std.specs.Prelude.{Result, Err}
 use Rattle.tape.specs.declared.BadWord.{BadWord}
 use Rattle.tape.specs.Answers.{bad_at, verdict_of, setup_answer}
 use Rattle.tape_writer.specs.Answers.{Wrote}
 use Rattle.std.specs.Prelude.{Result}
 use Rattle.tape_writer.specs.declared.PutError.{PutError}
 use Rattle.tape.specs.declared.Setup.{Setup}
-use Rattle.tape_exports.specs.Numbers.{handed, largest, verdict_number, setup_numbers, put_number}
+use Rattle.tape_exports.specs.Numbers.{verdict_number, put_number}
 use Rattle.tape_exports.specs.Promises.{VerdictHanded, SetupHanded, PutHanded}
 use Rattle.tape_exports.proofs.Places.{verdict_below, setup_below, call_below, setup_put_below, end_below}
-
--- ---- stores from the front on
-
-pub set_three : (l : List ℕ) (at a b c : ℕ) → set (set (set l at a) (at + 1) b) (at + 2) c ≡ sets l at (a ∷ b ∷ c ∷ [])
-set_three l at a b c =
-    let one : at + 1 ≡ suc at = omega arith in
-    let two : at + 2 ≡ suc (suc at) = omega arith in
-    rw (one, two)
-
-sets_nowhere : (i : ℕ) (vs : List ℕ) → sets [] i vs ≡ []
-sets_nowhere i [] = refl
-sets_nowhere i (v ∷ vs) = sets_nowhere (suc i) vs
-
-sets_behind : (a : ℕ) (l : List ℕ) (i : ℕ) (vs : List ℕ) → sets (a ∷ l) (suc i) vs ≡ a ∷ sets l i vs
-sets_behind a l i [] = refl
-sets_behind a l i (v ∷ vs) = sets_behind a (set l i v) (suc i) vs
-
-pub sets_is_handed : (l vs : List ℕ) → sets l 0 vs ≡ handed vs l
-sets_is_handed [] [] = refl
-sets_is_handed (b ∷ l) [] = refl
-sets_is_handed [] (v ∷ vs) = sets_nowhere 1 vs
-sets_is_handed (b ∷ l) (v ∷ vs) = sets_behind v l 0 vs ∙ ap (λ (r : List ℕ). v ∷ r) (sets_is_handed l vs)
 
 -- ---- what is read
 
 module _ {tape : List ℕ} (are : all is_byte tape ≡ true) (fits : length tape < 2 ^ 64) where
   pub verdict_handed : {v : Result (Unit {0}) BadWord} → v ≡ verdict_of (read tape) → VerdictHanded tape (verdict_number v)
   verdict_handed e = record { answered = ap verdict_number e; below = verdict_below tape are fits }
-
-  pub setup_handed : {entry exit : List ℕ} {s : Result Setup BadWord} {x : Setup} → s ≡ setup_answer (read tape) → s ≡ Ok x
-      → exit ≡ sets entry 0 (setup_numbers x) → SetupHanded tape entry exit largest
-  setup_handed {entry} {exit} {s} {x} e f h =
-      record {
-        answered = rw (← e, f);
-        below = setup_below tape are fits;
-        out = rw (← e, f) (h ∙ sets_is_handed entry (setup_numbers x));
-      }
 
   pub bad_handed : {entry : List ℕ} {s : Result Setup BadWord} {place : ℕ} → s ≡ setup_answer (read tape) → s ≡ Err (bad_at place)
       → SetupHanded tape entry entry place

@@ -10,7 +10,7 @@ use borrow.Author.Tests.{leb-true}
 use Rattle.model.specs.Bytes.{all}
 use Rattle.model.specs.Receiver.{Call, Setup}
 use Rattle.model.specs.Tape.{TapeRead, read_tape, bad_tape, read, word_of, end_word, call_words, call_fits, setup_words, setup_fits, put_words, put_call, put_setup, put_end, put_too_large}
-use Rattle.model.proofs.BoolLaws.{by_test, clash}
+use Rattle.model.proofs.BoolLaws.{by_test}
 use Rattle.model.proofs.BytesLaws.{is_byte, length_words_of}
 use Rattle.model.proofs.TapeFirstBad.{first_bad_word}
 use Rattle.std.specs.Prelude.{Ok, Err}
@@ -24,11 +24,11 @@ use Rattle.tape_exports.specs.Numbers.{largest}
 -- ---- what is read
 
 verdict_bad : (t : TapeRead) (place : ℕ) → verdict_of t ≡ Err (bad_at place) → t ≡ bad_tape place
-verdict_bad (read_tape x) place e = clash (cc)
+verdict_bad (read_tape x) place e = cc
 verdict_bad (bad_tape p) place e = let same : bad_at p ≡ bad_at place = cc in ap (λ (b : BadWord). bad_tape b.place) same
 
 setup_bad : (t : TapeRead) (place : ℕ) → setup_answer t ≡ Err (bad_at place) → t ≡ bad_tape place
-setup_bad (read_tape x) place e = clash (cc)
+setup_bad (read_tape x) place e = cc
 setup_bad (bad_tape p) place e = let same : bad_at p ≡ bad_at place = cc in ap (λ (b : BadWord). bad_tape b.place) same
 
 module _ (tape : List ℕ) (are : all is_byte tape ≡ true) (fits : length tape < 2 ^ 64) where
@@ -53,13 +53,13 @@ module _ (place : ℕ) (target : List ℕ) (fits : length target < 2 ^ 64) where
       omega (arith, leb-true (4 * place + 4 * length ws) (length target) room))
       (λ none.
       let refused : Err putError.NoRoom ≡ Ok next = rw (words_no_room place ws target none) at e in
-      clash (cc))
+      cc)
 
   fitting_below : (fits : Bool) (ws : List ℕ) (next : ℕ)
       → answer_of (cond fits (put_words place ws target) (put_too_large place)) ≡ Ok next
       → next < largest - 11
   fitting_below true ws next e = words_below ws next e
-  fitting_below false ws next e = clash (cc)
+  fitting_below false ws next e = cc
 
   pub call_below : (c : Call) (next : ℕ) → answer_of (put_call place c target) ≡ Ok next → next < largest - 11
   unfolding put_call

@@ -1,6 +1,7 @@
 -- The tape's answers as numbers, for programs in other languages. Assumes nothing.
 use Rattle.std.specs.Prelude.{ℕ, ◌-◌, Bool, true, false, List, [], ◌∷◌, ◌++◌, length, take, drop, Some, None, Result, Ok, Err}
 use Rattle.calls.specs.Sides.{side_number}
+use Rattle.calls.specs.Views.{size_numbers}
 use Rattle.tape.specs.declared.Setup.{Setup}
 use Rattle.tape.specs.declared.BadWord.{BadWord}
 use Rattle.tape.specs.Answers.{Found}
@@ -35,19 +36,7 @@ verdict_number (Err bad) = bad.place
 -- the six sizes, then top, floor and range of A and of B
 abbrev pub setup_numbers : Setup → List ℕ
 setup_numbers x =
-    x.sizes.packet
-    ∷ x.sizes.target
-    ∷ x.sizes.max
-    ∷ x.sizes.bins
-    ∷ x.sizes.width
-    ∷ x.sizes.height
-    ∷ x.a.top
-    ∷ x.a.floor
-    ∷ x.a.range
-    ∷ x.b.top
-    ∷ x.b.floor
-    ∷ x.b.range
-    ∷ []
+    size_numbers x.sizes ++ x.a.top ∷ x.a.floor ∷ x.a.range ∷ x.b.top ∷ x.b.floor ∷ x.b.range ∷ []
 
 abbrev pub setup_number : Result Setup BadWord → ℕ
 setup_number (Ok x) = largest
@@ -66,7 +55,7 @@ call_numbers (call.Reset side) next = 3 ∷ next ∷ side_number side ∷ 0 ∷ 
 call_numbers (call.Set side x) next =
     4 ∷ next ∷ side_number side ∷ flag_number x.adaptive ∷ x.top ∷ x.range ∷ x.zoom ∷ x.smoothing ∷ []
 call_numbers (call.Probe t) next = 5 ∷ next ∷ t.t1 ∷ t.t2 ∷ t.t3 ∷ t.t4 ∷ []
-call_numbers (call.OneWay receive send) next = 6 ∷ next ∷ receive ∷ send ∷ []
+call_numbers (call.OneWay t) next = 6 ∷ next ∷ t.receive ∷ t.send ∷ []
 call_numbers (call.Depth samples k) next =
     7 ∷ next ∷ samples ∷ k.conceals ∷ k.late ∷ k.overflow ∷ k.resyncs ∷ []
 call_numbers (call.TransmitDepth samples) next = 8 ∷ next ∷ samples ∷ 0 ∷ []

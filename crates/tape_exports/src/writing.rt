@@ -8,7 +8,7 @@ ghost use Rattle.calls.specs.Sides.{side_named};
 ghost use Rattle.tape_exports.specs.Numbers.{put_number};
 ghost use Rattle.tape_exports.specs.Promises.{PutHanded};
 
-use calls::{DepthCounts, Estimates, ProbeTimes, Refusal, Settings, Side, Sizes};
+use calls::{DepthCounts, Estimates, OneWayTimes, ProbeTimes, Refusal, Settings, Side, Sizes};
 use tape::Setup;
 use tape_writer::PutError;
 
@@ -84,7 +84,7 @@ pub extern "C" fn tape_put_probe(
 pub extern "C" fn tape_put_one_way(target: &mut [u8], place: usize, receive: u64, send: u64) -> u64
     ensures { PutHanded (put_call place (one_way receive send) target.old) target.old target.new result }
 {
-    answer(tape_writer::put_one_way(target, place, receive, send))
+    answer(tape_writer::put_one_way(target, place, OneWayTimes { receive, send }))
 }
 
 #[unsafe(no_mangle)]

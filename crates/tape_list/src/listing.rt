@@ -1,9 +1,11 @@
 // The lines of a tape. Each begins with the place of what it tells and its kind; a float stands there by its bits.
 ghost use Rattle.tape.specs.Answers.{CallInside};
 
-use calls::ProbeTimes;
+use calls::{OneWayTimes, ProbeTimes};
 use std::io;
+use tape::heads::END_WORD;
 use tape::{BadWord, Call, FIRST_CALL, Setup};
+use udp_framing::big_endian::BigEndian;
 
 fn setup(rt: &impl Print, s: Setup) -> io::Result<()> {
     let z = s.sizes;
@@ -56,7 +58,9 @@ fn call(rt: &impl Print, at: usize, tape: &[u8], call: Call) -> io::Result<()>
         Call::Probe(ProbeTimes { t1, t2, t3, t4 }) => println!(rt;
             "{at} probe {t1} {t2} {t3} {t4}"
         ),
-        Call::OneWay { receive, send } => println!(rt; "{at} one-way {receive} {send}"),
+        Call::OneWay(OneWayTimes { receive, send }) => println!(rt;
+            "{at} one-way {receive} {send}"
+        ),
         Call::Depth { samples, counts: k } => println!(rt;
             "{at} depth {samples} {} {} {} {}",
             k.conceals, k.late, k.overflow, k.resyncs
@@ -67,7 +71,7 @@ fn call(rt: &impl Print, at: usize, tape: &[u8], call: Call) -> io::Result<()>
 
 // Whether an end word stands at a place.
 fn ends_at(tape: &[u8], at: usize) -> bool {
-    at < tape.len() / 4 && tape[4 * at..4 * at + 4].iter().all(|byte| *byte == 0)
+    at < tape.len() / 4 && u32::read_from(tape, 4 * at) == END_WORD
 }
 
 // A bad word, and before it an end word with something behind it.
@@ -78,11 +82,12 @@ fn bad_word(rt: &impl Print, at: usize, tape: &[u8], bad: BadWord) -> io::Result
     println!(rt; "{} bad", bad.place)
 }
 
-// The calls, one after the other, and what ends them; each call takes a word of the tape at least.
+// The calls, one after the other, and what ends them; each call takes a word of the tape at least. (No `while`: that is a law and two
+// files of proof for its measure.)
 fn calls(rt: &impl Print, tape: &[u8]) -> io::Result<()> {
     let mut at = FIRST_CALL;
     for _ in 0..tape.len() {
-        match tape_reader::found_at(tape, at) {
+        match tape::reader::call_at(tape, at) {
             Ok(Some(placed)) => {
                 call(rt, at, tape, placed.call)?;
                 at = placed.next;

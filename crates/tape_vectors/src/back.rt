@@ -1,6 +1,6 @@
 // What was written, read back field by field.
 use crate::report::Bench;
-use crate::sample::{TIMES, depth_counts, every_call, every_call_setup, settings, small};
+use crate::sample::{ONE_WAY, TIMES, depth_counts, every_call, every_call_setup, settings, small};
 use calls::Side;
 use tape::{BadWord, Call, Found, Placed, reader};
 use tape_writer::PutError;
@@ -62,10 +62,6 @@ fn channel_calls(t: &[u8], b: &mut Bench) {
 }
 
 fn clock_calls(t: &[u8], b: &mut Bench) {
-    let one_way = Call::OneWay {
-        receive: 12884901892,
-        send: 5,
-    };
     let depth = Call::Depth {
         samples: 4294967295,
         counts: depth_counts(),
@@ -75,7 +71,7 @@ fn clock_calls(t: &[u8], b: &mut Bench) {
         b,
         &[
             ("probe", 30, call(Call::Probe(TIMES), 39)),
-            ("one-way", 39, call(one_way, 44)),
+            ("one-way", 39, call(Call::OneWay(ONE_WAY), 44)),
             ("depth", 44, call(depth, 54)),
             (
                 "transmit depth",

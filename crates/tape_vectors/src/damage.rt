@@ -2,11 +2,12 @@
 use crate::report::{Bench, Verdict, bad};
 use crate::sample::{every_call, small};
 use tape::reader;
+use udp_framing::big_endian::BigEndian;
 
 impl Bench {
     fn set_word(&mut self, place: usize, word: u32) {
         if place < 64 {
-            self.tape[4 * place..4 * place + 4].copy_from_slice(&word.to_be_bytes());
+            word.write_to(&mut self.tape, 4 * place);
         }
     }
 

@@ -1,9 +1,14 @@
 // Two tapes: one with every kind of call, of 57 words, and the small one of 21 words that docs/TAPE.md prints.
-use calls::{DepthCounts, Estimates, ProbeTimes, Settings, Side, Sizes};
+use calls::{DepthCounts, Estimates, OneWayTimes, ProbeTimes, Settings, Side, Sizes};
 use tape::Setup;
 use tape_writer::PutError;
 
 // A probe of which each time shows which half of it stands where.
+pub(crate) const ONE_WAY: OneWayTimes = OneWayTimes {
+    receive: 12884901892,
+    send: 5,
+};
+
 pub(crate) const TIMES: ProbeTimes = ProbeTimes {
     t1: 1,
     t2: 4294967298,
@@ -78,7 +83,7 @@ fn channel_calls(t: &mut [u8], place: usize) -> Result<usize, PutError> {
 // Places 30 to 55: a probe, a one-way, a depth, a transmit depth.
 fn clock_calls(t: &mut [u8], place: usize) -> Result<usize, PutError> {
     let p = tape_writer::put_probe(t, place, TIMES)?;
-    let p = tape_writer::put_one_way(t, p, 12884901892, 5)?;
+    let p = tape_writer::put_one_way(t, p, ONE_WAY)?;
     let p = tape_writer::put_depth(t, p, 4294967295, depth_counts())?;
     tape_writer::put_transmit_depth(t, p, 7)
 }
@@ -96,11 +101,10 @@ pub fn small(t: &mut [u8]) -> Result<usize, PutError> {
     let bytes = [
         0x52u8, 0x53, 1, 1, 0, 0, 0, 7, 0, 0, 0, 0, 0, 0, 0, 0, 0xff, 0x7f, 0x01, 0x80,
     ];
-    let none = estimates(0, 0, 0);
     let setup = Setup {
         sizes: small_sizes(),
-        a: none,
-        b: none,
+        a: Estimates::default(),
+        b: Estimates::default(),
     };
     let p = tape_writer::put_setup(t, 0, setup)?;
     let p = tape_writer::put_datagram(t, p, &bytes)?;

@@ -1,9 +1,9 @@
 -- What a caller learns from an answer, and bytes that are written one part behind the other. Assumes nothing.
-use Rattle.std.proofs.Common.{◌≡◌, ℕ, ◌+◌, ◌<◌, ◌≤◌, leb, List, ◌++◌, length, arith, length-append, leb-false, leb-true, le-leb, Option, Some, None, IsSome}
+use Rattle.std.proofs.Common.{◌≡◌, ℕ, ◌+◌, ◌≤◌, leb, List, ◌++◌, length, arith, length-append, leb-true, le-leb, Option, Some, IsSome}
 use Rattle.model.specs.Bytes.{placed, written_into}
-use Rattle.model.proofs.BoolLaws.{by_test, clash}
+use Rattle.model.proofs.BoolLaws.{by_test}
 use Rattle.model.proofs.ListLaws.{placed_length}
-use Rattle.model.proofs.ByteParts.{placed_behind}
+use Rattle.model.proofs.PlacedLaws.{placed_append}
 use Rattle.text.specs.Promises.{Written}
 
 -- behind the answer Some
@@ -11,11 +11,6 @@ pub record Fitted (bytes : List ℕ) (at : ℕ) (entry exit : List ℕ) (next : 
   pub room : at + length bytes ≤ length entry
   pub place : next ≡ at + length bytes
   pub target : exit ≡ placed at bytes entry
-
--- behind the answer None
-pub record DidNotFit (bytes : List ℕ) (at : ℕ) (entry exit : List ℕ) : Type 0 where
-  pub short : length entry < at + length bytes
-  pub unchanged : exit ≡ entry
 
 module _ {bytes : List ℕ} {at : ℕ} {entry exit : List ℕ} where
   pub next_fitted : {next : ℕ} → Written bytes at entry exit (Some next) → Fitted bytes at entry exit next
@@ -27,16 +22,7 @@ module _ {bytes : List ℕ} {at : ℕ} {entry exit : List ℕ} where
       record { room = leb-true (at + length bytes) (length entry) e; place = cc; target = rw e at w.target })
       (λ e.
       let answered = rw e at w.answered in
-      clash (cc))
-
-  pub no_room_did_not_fit : Written bytes at entry exit None → DidNotFit bytes at entry exit
-  unfolding written_into
-  no_room_did_not_fit w =
-      by_test (leb (at + length bytes) (length entry))
-      (λ e.
-      let answered = rw e at w.answered in
-      clash (cc))
-      (λ e. record { short = leb-false (at + length bytes) (length entry) e; unchanged = rw e at w.target })
+      cc)
 
 -- what fits was written
 module _ {bytes : List ℕ} {at : ℕ} {entry exit : List ℕ} {answer : Option ℕ} (w : Written bytes at entry exit answer) where
@@ -50,7 +36,7 @@ module _ {bytes : List ℕ} {at : ℕ} {entry exit : List ℕ} {answer : Option 
 -- two parts that fitted are one
 pub fitted_behind : {xs ys first middle last : List ℕ} {at next end : ℕ} → Fitted xs at first middle next → Fitted ys next middle last end → Fitted (xs ++ ys) at first last end
 fitted_behind {xs} {ys} {first} {middle} {last} {at} {next} {end} f g =
-    record { room = rw sum fits; place = rw (g.place, f.place, sum); target = rw (g.target, f.target, f.place) (placed_behind at xs ys first (omega (arith, fits))) }
+    record { room = rw sum fits; place = rw (g.place, f.place, sum); target = rw (g.target, f.target, f.place) (placed_append at xs ys first f.room) }
   where
     kept : length middle ≡ length first
     kept = rw f.target (placed_length at xs first f.room)

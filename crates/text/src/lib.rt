@@ -1,7 +1,8 @@
 // Numbers as text in lent bytes. Each public function writes from a place on and answers the place behind what it wrote.
 // It takes any target, any place and any number. Where the target is too short, refusal 2: it answers None, and nothing is written.
 // The digits are not the kit's: `itoa` writes them into 40 bytes of its own, so room and copy would stay here, and promises std's `decimal`,
-// which is not the model's; `hex` writes a number's bytes, whose digits would have to be shown to be the number's. The loop is two lines.
+// which is not the model's; `hex` writes a number's bytes, whose digits would have to be shown to be the number's; `char::from_digit` answers an
+// Option of a character, to be unwrapped and cut to a byte. The loop is two lines.
 #![tactic(auto)]
 
 ghost use Rattle.std.specs.Prelude.{◌≡◌, ◌+◌, ◌<◌, [], ◌∷◌, length, nat_le};
@@ -38,6 +39,7 @@ fn digit(d: u64) -> u8
 }
 
 // Writes so many digits of a number, the last one first.
+#[tactic(auto, using(model::proofs::PlacedLaws::none_placed, crate::proofs::DigitLaws::digits_in_length, crate::proofs::DigitLaws::digit_placed), unfolding(model::specs::Bytes::written_into, crate::specs::Digits::digits_in))]
 fn put_digits(out: &mut [u8], at: usize, count: usize, base: u64, n: u64) -> Option<usize>
     requires { Base base }
     ensures { Written (digits_in base count n) at out.old out.new result }
@@ -55,6 +57,7 @@ fn put_digits(out: &mut [u8], at: usize, count: usize, base: u64, n: u64) -> Opt
 }
 
 // Writes one byte.
+#[tactic(auto, using(crate::proofs::WrittenLaws::byte_placed), unfolding(model::specs::Bytes::written_into))]
 pub fn put_byte(out: &mut [u8], at: usize, byte: u8) -> Option<usize>
     ensures { Written (byte ∷ []) at out.old out.new result }
 {
@@ -75,6 +78,7 @@ pub fn put_decimal(out: &mut [u8], at: usize, n: u64) -> Option<usize>
 }
 
 // Writes a minus and a number in decimal.
+#[tactic(auto, unfolding(model::specs::Bytes::written_into))]
 fn put_negative(out: &mut [u8], at: usize, n: u64) -> Option<usize>
     ensures { Written (45 ∷ decimal n) at out.old out.new result }
 {
@@ -87,6 +91,7 @@ fn put_negative(out: &mut [u8], at: usize, n: u64) -> Option<usize>
 }
 
 // Writes a signed number in decimal, with a minus only below 0.
+#[tactic(auto, unfolding(model::specs::Replay::signed_decimal))]
 pub fn put_signed(out: &mut [u8], at: usize, n: i64) -> Option<usize>
     ensures { Written (signed_decimal n) at out.old out.new result }
 {

@@ -42,11 +42,6 @@ fn refused(answer: Option<usize>, out: &[u8]) -> bool {
     answer.is_none() && out == [b'.'; SIZE].as_slice()
 }
 
-// The place behind, or one far outside every target.
-fn behind(answer: Option<usize>) -> usize {
-    answer.unwrap_or(usize::MAX)
-}
-
 fn decimals() -> bool {
     all_fit(
         put_decimal,
@@ -114,18 +109,22 @@ fn far_places() -> bool {
     refused(first, &out) && refused(second, &out) && refused(third, &out) && refused(fourth, &out)
 }
 
-// A line of words, each part at the place behind the last: what lies behind the line stays.
+// A line of words, each part at the place behind the last.
+fn put_words(out: &mut [u8]) -> Option<usize> {
+    let at = put_byte(out, 0, b'P')?;
+    let at = put_byte(out, at, b' ')?;
+    let at = put_decimal(out, at, 160)?;
+    let at = put_byte(out, at, b' ')?;
+    let at = put_signed(out, at, -5)?;
+    let at = put_byte(out, at, b' ')?;
+    let at = put_hex(out, at, 0x3f80_0000)?;
+    put_byte(out, at, b'\n')
+}
+
+// What lies behind a line stays.
 fn line() -> bool {
     let mut out = [b'.'; SIZE];
-    let mut at = behind(put_byte(&mut out, 0, b'P'));
-    at = behind(put_byte(&mut out, at, b' '));
-    at = behind(put_decimal(&mut out, at, 160));
-    at = behind(put_byte(&mut out, at, b' '));
-    at = behind(put_signed(&mut out, at, -5));
-    at = behind(put_byte(&mut out, at, b' '));
-    at = behind(put_hex(&mut out, at, 0x3f80_0000));
-    at = behind(put_byte(&mut out, at, b'\n'));
-    at == 18 && out == *b"P 160 -5 3f800000\n......"
+    put_words(&mut out) == Some(18) && out == *b"P 160 -5 3f800000\n......"
 }
 
 fn report(rt: &impl Print, group: &str, ok: bool) -> io::Result<()> {

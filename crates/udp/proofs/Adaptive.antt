@@ -2,7 +2,7 @@
 use Rattle.std.proofs.Common.{◌≡◌, Option, None, Some, MatchOption, true, false, eqb, List, length, sym, ◌∙◌}
 use lib.Ieee.{Float}
 use Rattle.model.specs.Scaling.{Display, finite_values, row_floor, row_top, estimates_toward, display_after}
-use Rattle.model.proofs.BoolLaws.{by_test, clash}
+use Rattle.model.proofs.BoolLaws.{by_test}
 use Rattle.spectrum_utils.specs.declared.FloorAndTop.{FloorAndTop}
 use Rattle.spectrum_utils.specs.Estimates.{row_estimate}
 
@@ -16,13 +16,13 @@ module _ (row : List Float) (d : Display) (on : d.adaptive ≡ true) where
   stays_with_none_finite is =
       by_test (eqb (length (finite_values row)) 0)
       (λ none-finite. rw (on, none-finite))
-      (λ some-finite. let e = rw some-finite at is in clash (cc))
+      (λ some-finite. let e = rw some-finite at is in cc)
 
   pub moves_toward_levels : (levels : FloorAndTop) → row_estimate row ≡ Some levels → estimates_toward levels.floor levels.top d ≡ display_after row d
   unfolding display_after row_estimate
   moves_toward_levels levels is =
       by_test (eqb (length (finite_values row)) 0)
-      (λ none-finite. let e = rw none-finite at is in clash (cc))
+      (λ none-finite. let e = rw none-finite at is in cc)
       (λ some-finite.
       let e = rw some-finite at is in
       let f : levels ≡ record { floor = row_floor row; top = row_top row } = cc in

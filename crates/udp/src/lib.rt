@@ -27,7 +27,7 @@ const ADAPTIVE_MIN_RANGE_DB: f32 = 30.0;
 const ADAPTIVE_MAX_RANGE_DB: f32 = 100.0;
 
 // The sequence counts of one stream, and its last sequence, if there was one.
-#[derive(Clone, Copy, PartialEq, Eq, Debug)]
+#[derive(Clone, Copy, PartialEq, Eq, Debug, Default)]
 pub struct StreamCounts {
     pub packets: u64,
     pub dropped: u64,
@@ -40,12 +40,7 @@ impl StreamCounts {
     pub fn new() -> Self
         ensures { counts_of result ≡ fresh_counts }
     {
-        StreamCounts {
-            packets: 0,
-            dropped: 0,
-            late: 0,
-            last: None,
-        }
+        Self::default()
     }
 
     // Question 3 for a stream's counts: whether a receiver of so many accepted calls could hold them.
@@ -68,6 +63,7 @@ pub fn incoming_could_be_held(incoming: u64, calls: u64) -> bool
 
 // Counts a datagram of the stream. A sequence above the expected one drops those between; one below it is late. The
 // last sequence is always replaced.
+#[tactic(auto, unfolding(model::specs::Counts::counted, model::specs::Counts::dropped_by, model::specs::Counts::late_by, model::specs::Counts::is_below, model::specs::Framing::next_sequence))]
 pub fn update_sequence_stats(counts: StreamCounts, sequence: u32) -> StreamCounts
     requires { CountsFit (counts_of counts) }
     ensures { counts_of result ≡ counted sequence (counts_of counts) }
@@ -95,7 +91,8 @@ pub fn update_sequence_stats(counts: StreamCounts, sequence: u32) -> StreamCount
 }
 
 // Smooths a row into the running one: copied on a length change or at a weight of 1, else each bin moves toward the row's.
-// `smooth` has room for the row's bins, and `len` of its values are in use. The answer is how many are then.
+// `smooth` has room for the row's bins, and `len` of its values are in use. The answer is how many are then. (Its steps are those of
+// `update_spectrum_db`, but for the weight of 1: one function for both would take that test and the closure, and be as long as this one.)
 pub fn smooth_row(row: &[f32], smooth: &mut [f32], len: usize, smoothing: f32) -> usize
     requires { (length row.now ≤ length smooth.old) × (len ≤ length smooth.old) }
     ensures { InFront (smoothing_after smoothing row.now (take len smooth.old)) smooth.old smooth.new result }
@@ -126,6 +123,7 @@ pub struct Display {
 
 // With adaptive on, the estimates follow the row, if it has finite values. With it off nothing is worked out. The contents
 // of `work` are free afterwards.
+#[tactic(auto, using(crate::proofs::Adaptive::stays_with_adaptive_off))]
 pub fn update_adaptive_waterfall_display(display: Display, row: &[f32], work: &mut [f32]) -> Display
     requires { (length row.now ≤ 65535) × (length row.now ≤ length work.old) }
     ensures { display_of result ≡ display_after row.now (display_of display) }
@@ -140,6 +138,7 @@ pub fn update_adaptive_waterfall_display(display: Display, row: &[f32], work: &m
 }
 
 // One estimate moved toward a row's value.
+#[tactic(auto, using(model::proofs::Constants::f_one), unfolding(model::specs::Scaling::estimated))]
 fn estimated(old: f32, new: f32) -> f32
     ensures { result ≡ estimated old new }
 {
@@ -147,6 +146,7 @@ fn estimated(old: f32, new: f32) -> f32
 }
 
 // The estimates moved toward a row's floor and top.
+#[tactic(auto, using(model::proofs::Constants::f_three, model::proofs::Constants::f_30, model::proofs::Constants::f_100), unfolding(model::specs::Scaling::estimates_toward, model::specs::Scaling::adaptive_range, model::specs::Scaling::adaptive_top))]
 fn estimates_toward(display: Display, levels: FloorAndTop) -> Display
     ensures { display_of result ≡ estimates_toward levels.floor levels.top (display_of display) }
 {

@@ -1,6 +1,6 @@
 -- What the library reads of an array of bytes, and writes into one, is the model's big-endian number. Assumes nothing.
 use Rattle.std.proofs.Common.{◌≡◌, ℕ, zero, suc, ◌+◌, ◌/◌, ◌%◌, ◌^◌, ◌<◌, ◌≤◌, List, [], ◌∷◌, length, refl, ap, arith, w8, w16, w32, w64, length-take, length-drop}
-use Rattle.std.specs.Int.{from_be_bytes, bytes_high_first}
+use Rattle.std.specs.Int.{from_be_bytes, to_be_bytes, bytes_high_first}
 use Rattle.model.specs.Bytes.{big_endian, big_endian_at, big_endian_bytes, part}
 
 -- ---- numbers that are read
@@ -16,32 +16,18 @@ one_byte (a ∷ b ∷ rest) l = absurd (omega arith)
 
 two_bytes : (bs : List ℕ) → length bs ≡ 2 → from_be_bytes w16 bs ≡ big_endian bs
 unfolding big_endian
-two_bytes [] l = absurd (omega arith)
-two_bytes (a ∷ []) l = absurd (omega arith)
 two_bytes (a ∷ b ∷ []) l = omega arith
-two_bytes (a ∷ b ∷ c ∷ rest) l = absurd (omega arith)
+two_bytes _ l = absurd (omega arith)
 
 four_bytes : (bs : List ℕ) → length bs ≡ 4 → from_be_bytes w32 bs ≡ big_endian bs
 unfolding big_endian
-four_bytes [] l = absurd (omega arith)
-four_bytes (a ∷ []) l = absurd (omega arith)
-four_bytes (a ∷ b ∷ []) l = absurd (omega arith)
-four_bytes (a ∷ b ∷ c ∷ []) l = absurd (omega arith)
 four_bytes (a ∷ b ∷ c ∷ d ∷ []) l = omega arith
-four_bytes (a ∷ b ∷ c ∷ d ∷ e ∷ rest) l = absurd (omega arith)
+four_bytes _ l = absurd (omega arith)
 
 eight_bytes : (bs : List ℕ) → length bs ≡ 8 → from_be_bytes w64 bs ≡ big_endian bs
 unfolding big_endian
-eight_bytes [] l = absurd (omega arith)
-eight_bytes (a ∷ []) l = absurd (omega arith)
-eight_bytes (a ∷ b ∷ []) l = absurd (omega arith)
-eight_bytes (a ∷ b ∷ c ∷ []) l = absurd (omega arith)
-eight_bytes (a ∷ b ∷ c ∷ d ∷ []) l = absurd (omega arith)
-eight_bytes (a ∷ b ∷ c ∷ d ∷ e ∷ []) l = absurd (omega arith)
-eight_bytes (a ∷ b ∷ c ∷ d ∷ e ∷ f ∷ []) l = absurd (omega arith)
-eight_bytes (a ∷ b ∷ c ∷ d ∷ e ∷ f ∷ g ∷ []) l = absurd (omega arith)
 eight_bytes (a ∷ b ∷ c ∷ d ∷ e ∷ f ∷ g ∷ h ∷ []) l = omega arith
-eight_bytes (a ∷ b ∷ c ∷ d ∷ e ∷ f ∷ g ∷ h ∷ i ∷ rest) l = absurd (omega arith)
+eight_bytes _ l = absurd (omega arith)
 
 module _ (at : ℕ) (xs : List ℕ) where
   pub read_1 : at + 1 ≤ length xs → from_be_bytes w8 (part at 1 xs) ≡ big_endian_at at 1 xs
@@ -58,11 +44,20 @@ module _ (at : ℕ) (xs : List ℕ) where
 
 -- ---- bytes that are written
 
-pub written : (k n : ℕ) → bytes_high_first k n ≡ big_endian_bytes k n
+written : (k n : ℕ) → bytes_high_first k n ≡ big_endian_bytes k n
 unfolding big_endian_bytes
 written zero n = refl
 written (suc zero) n = ap (λ (b : ℕ). b ∷ []) (omega arith)
 written (suc (suc k)) n = ap (λ (bs : List ℕ). n / 256 ^ suc k % 256 ∷ bs) (written (suc k) n)
+
+pub written_2 : (n : ℕ) → to_be_bytes w16 n ≡ big_endian_bytes 2 n
+written_2 n = written 2 n
+
+pub written_4 : (n : ℕ) → to_be_bytes w32 n ≡ big_endian_bytes 4 n
+written_4 n = written 4 n
+
+pub written_8 : (n : ℕ) → to_be_bytes w64 n ≡ big_endian_bytes 8 n
+written_8 n = written 8 n
 
 pub byte_written : (n : ℕ) → n < 256 → n ∷ [] ≡ big_endian_bytes 1 n
 unfolding big_endian_bytes

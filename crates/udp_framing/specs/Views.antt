@@ -1,6 +1,5 @@
--- What the crate's values stand for: the model's header, times and time packets, sums, and the numbers of the refusals. Assumes nothing.
-use Rattle.std.specs.Prelude.{ℕ, ◌+◌, ◌*◌, ◌^◌, Bool, Option, None, Some, Result, Ok, Err}
-use Rattle.std.specs.Int.{from_bool}
+-- What the crate's values stand for: the model's header, times and time packets, and the numbers of the refusals. Assumes nothing.
+use Rattle.std.specs.Prelude.{ℕ, Option, None, Some, Result, Ok, Err}
 use Rattle.std.proofs.Math.Option as Maybe
 use Rattle.std.proofs.Math.Option.{none, some}
 use Rattle.model.specs.Framing.{Header, TimeRequest, TimeResponse}
@@ -32,6 +31,14 @@ abbrev pub send_time_found : Option ℕ → Maybe.Option ℕ
 send_time_found (Some n) = some n
 send_time_found None = none
 
+-- ---- time packets
+
+abbrev pub request_of : TimeSyncRequest → TimeRequest
+request_of q = record { probe = q.probe_id; t1 = q.t1_ns }
+
+abbrev pub response_of : TimeSyncResponse → TimeResponse
+response_of q = record { probe = q.probe_id; t1 = q.t1_ns; t2 = q.t2_ns; t3 = q.t3_ns }
+
 -- ---- what may be refused
 
 -- a value, or a refusal's number
@@ -52,17 +59,3 @@ answer_of f (Err e) = refused (refusal_number e)
 -- the number of bytes that were written
 abbrev pub built_answer : Result ℕ Refusal → Answer ℕ
 built_answer r = answer_of (λ n. n) r
-
--- the probe's number and t1
-abbrev pub request_answer : Result TimeSyncRequest Refusal → Answer TimeRequest
-request_answer r = answer_of (λ q. record { probe = q.probe_id; t1 = q.t1_ns }) r
-
--- the probe's number and three times
-abbrev pub response_answer : Result TimeSyncResponse Refusal → Answer TimeResponse
-response_answer r = answer_of (λ q. record { probe = q.probe_id; t1 = q.t1_ns; t2 = q.t2_ns; t3 = q.t3_ns }) r
-
--- ---- words
-
--- the number that a low word and a carry are
-abbrev pub sum_of : ℕ × Bool → ℕ
-sum_of s = from_bool s.1 * 2 ^ 64 + s.0

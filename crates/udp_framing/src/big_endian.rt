@@ -22,9 +22,7 @@ fn bytes_at<const N: usize>(packet: &[u8], at: usize) -> [u8; N]
     requires { at + N ≤ length packet.now }
     ensures { result ≡ part at N packet.now }
 {
-    let mut bytes = [0; N];
-    bytes.copy_from_slice(&packet[at..at + N]);
-    bytes
+    *packet[at..].first_chunk().unwrap()
 }
 
 // Writes the bytes from a place on.
@@ -35,17 +33,19 @@ pub fn place_bytes(target: &mut [u8], at: usize, bytes: &[u8])
     target[at..at + bytes.len()].copy_from_slice(bytes);
 }
 
-// An impl for each width: `from_be_bytes` and `to_be_bytes` are each type's own, of no trait of the library, and an impl that a macro of
-// the repository writes is refused.
+// An impl for each width. (One for all, by `FromBytes` and `ToBytes` of the kit's `num_traits`, had nothing to show width and value by: no law
+// there says how many bytes the array has, nor that they are the number's. `byteorder` reads at a slice's front; a macro's impl is refused.)
 impl BigEndian for u8 {
     ghost width = { 1 };
 
     ghost value = { λ n. n };
 
+    #[tactic(auto, using(crate::proofs::BigEndian::read_1))]
     fn read_from(packet: &[u8], at: usize) -> u8 {
         u8::from_be_bytes(bytes_at(packet, at))
     }
 
+    #[tactic(auto, using(crate::proofs::BigEndian::byte_written))]
     fn write_to(self, target: &mut [u8], at: usize) {
         place_bytes(target, at, &self.to_be_bytes());
     }
@@ -56,10 +56,12 @@ impl BigEndian for u16 {
 
     ghost value = { λ n. n };
 
+    #[tactic(auto, using(crate::proofs::BigEndian::read_2))]
     fn read_from(packet: &[u8], at: usize) -> u16 {
         u16::from_be_bytes(bytes_at(packet, at))
     }
 
+    #[tactic(auto, using(crate::proofs::BigEndian::written_2))]
     fn write_to(self, target: &mut [u8], at: usize) {
         place_bytes(target, at, &self.to_be_bytes());
     }
@@ -70,10 +72,12 @@ impl BigEndian for u32 {
 
     ghost value = { λ n. n };
 
+    #[tactic(auto, using(crate::proofs::BigEndian::read_4))]
     fn read_from(packet: &[u8], at: usize) -> u32 {
         u32::from_be_bytes(bytes_at(packet, at))
     }
 
+    #[tactic(auto, using(crate::proofs::BigEndian::written_4))]
     fn write_to(self, target: &mut [u8], at: usize) {
         place_bytes(target, at, &self.to_be_bytes());
     }
@@ -84,10 +88,12 @@ impl BigEndian for u64 {
 
     ghost value = { λ n. n };
 
+    #[tactic(auto, using(crate::proofs::BigEndian::read_8))]
     fn read_from(packet: &[u8], at: usize) -> u64 {
         u64::from_be_bytes(bytes_at(packet, at))
     }
 
+    #[tactic(auto, using(crate::proofs::BigEndian::written_8))]
     fn write_to(self, target: &mut [u8], at: usize) {
         place_bytes(target, at, &self.to_be_bytes());
     }

@@ -3,18 +3,17 @@
 #![tactic(auto)]
 
 pub mod big_endian;
-pub mod words;
 
 ghost use Rattle.std.specs.Prelude.{◌≡◌, ◌≤◌, length};
 ghost use Rattle.model.specs.Bytes.{placed};
 ghost use Rattle.model.specs.Framing.{header_length, parse_header, valid_header, audio_start, audio_send_time, build_request, build_response, parse_request, parse_response};
+ghost use Rattle.model.specs.Clock.{low64};
 ghost use Rattle.udp_framing.specs.StreamTypes.{stream_number, Numbered};
-ghost use Rattle.udp_framing.specs.Views.{header_of, header_found, send_time_found, or_refusal, request_answer, response_answer};
+ghost use Rattle.udp_framing.specs.Views.{header_of, header_found, send_time_found, or_refusal, answer_of, request_of, response_of};
 ghost use Rattle.udp_framing.specs.Promises.{header_bytes, BuiltAs, TimePacketAsked, Measured};
 
 use big_endian::BigEndian;
 use calls::{ProbeTimes, Refusal};
-use words::{as_signed, half_difference};
 
 // "RS", at the front of each datagram.
 pub const MAGIC: u16 = 0x5253;
@@ -86,6 +85,7 @@ pub struct MediaHeader {
 }
 
 // The header at the front of a datagram of 16 bytes or more. Its fields are not judged: see is_valid_header.
+#[tactic(auto, unfolding(model::specs::Framing::parse_header, model::specs::Framing::header_fields))]
 pub fn parse_media_header(packet: &[u8]) -> Option<MediaHeader>
     ensures { header_found result ≡ parse_header packet.now }
 {
@@ -102,6 +102,7 @@ pub fn parse_media_header(packet: &[u8]) -> Option<MediaHeader>
 }
 
 // Whether the magic is right and the version is 1 or 2. Stream type and sequence are not judged.
+#[tactic(auto, unfolding(model::specs::Framing::valid_header))]
 pub fn is_valid_header(header: MediaHeader) -> bool
     ensures { result ≡ valid_header (header_of header) }
 {
@@ -109,6 +110,7 @@ pub fn is_valid_header(header: MediaHeader) -> bool
 }
 
 // Where the samples of an audio datagram of that version begin.
+#[tactic(auto, unfolding(model::specs::Framing::audio_start))]
 pub fn audio_samples_offset(version: u8) -> usize
     ensures { result ≡ audio_start version }
 {
@@ -121,6 +123,7 @@ pub fn audio_samples_offset(version: u8) -> usize
 
 // The server's send time in an audio datagram, in nanoseconds of its clock. Version 1 has none, nor has a datagram that
 // is too short.
+#[tactic(auto, unfolding(model::specs::Framing::audio_send_time))]
 pub fn audio_send_wall_ns(header: MediaHeader, packet: &[u8]) -> Option<u64>
     ensures { send_time_found result ≡ audio_send_time (header_of header) packet.now }
 {
@@ -142,25 +145,30 @@ fn push_header(target: &mut [u8], stream_type: StreamType, sequence: u32, timest
     timestamp.write_to(target, 8);
 }
 
+#[derive(Clone, Copy, PartialEq, Eq, Debug)]
+pub struct TimeSyncRequest {
+    pub probe_id: u32,
+    pub t1_ns: u64,
+}
+
 // Builds a time-sync request of 24 bytes, which carries the client's send time, at the front of the target. The answer
-// is the number of bytes. Where the target is too short, nothing is written. The numbers are parameters as in rigflow, here
-// and below: a struct would be made for each call and taken apart here.
+// is the number of bytes. Where the target is too short, nothing is written.
 pub fn build_time_sync_request(
     target: &mut [u8],
-    probe_id: u32,
-    t1_ns: u64,
+    request: TimeSyncRequest,
 ) -> Result<usize, Refusal>
-    ensures { BuiltAs (build_request (record { probe = probe_id; t1 = t1_ns })) target.old target.new result }
+    ensures { BuiltAs (build_request (request_of request)) target.old target.new result }
 {
     if target.len() < HEADER_LEN + 8 {
         return Err(Refusal::NoRoom);
     }
-    push_header(target, StreamType::TimeSyncRequest, probe_id, 0);
-    t1_ns.write_to(target, 16);
+    push_header(target, StreamType::TimeSyncRequest, request.probe_id, 0);
+    request.t1_ns.write_to(target, 16);
     Ok(24)
 }
 
 // The header of a time-sync packet, which has that type and so many bytes or more.
+#[tactic(auto, using(model::proofs::TimePackets::header_found_law, model::proofs::TimePackets::no_header_no_time_packet, model::proofs::TimePackets::other_type_no_time_packet, model::proofs::TimePackets::short_no_time_packet, model::proofs::TimePackets::time_packet_found))]
 fn time_header(packet: &[u8], stream_type: StreamType, size: usize) -> Result<MediaHeader, Refusal>
     requires { header_length ≤ size }
     ensures { TimePacketAsked (stream_number stream_type) size packet.now result }
@@ -172,43 +180,17 @@ fn time_header(packet: &[u8], stream_type: StreamType, size: usize) -> Result<Me
     Ok(header)
 }
 
-#[derive(Clone, Copy, PartialEq, Eq, Debug)]
-pub struct TimeSyncRequest {
-    pub probe_id: u32,
-    pub t1_ns: u64,
-}
-
 // The numbers of a time-sync request. Another type is refused, and so is a packet under 24 bytes. Magic and version are
 // not judged.
+#[tactic(auto, unfolding(model::specs::Framing::parse_request))]
 pub fn parse_time_sync_request(packet: &[u8]) -> Result<TimeSyncRequest, Refusal>
-    ensures { request_answer result ≡ or_refusal 10 (parse_request packet.now) }
+    ensures { answer_of request_of result ≡ or_refusal 10 (parse_request packet.now) }
 {
     let header = time_header(packet, StreamType::TimeSyncRequest, HEADER_LEN + 8)?;
     Ok(TimeSyncRequest {
         probe_id: header.sequence,
         t1_ns: u64::read_from(packet, HEADER_LEN),
     })
-}
-
-// Builds a time-sync response of 40 bytes, which has the request's t1 again and the server's receive and send times.
-// Its answer and its refusal are those of a request.
-pub fn build_time_sync_response(
-    target: &mut [u8],
-    probe_id: u32,
-    t1_ns: u64,
-    t2_ns: u64,
-    t3_ns: u64,
-) -> Result<usize, Refusal>
-    ensures { BuiltAs (build_response (record { probe = probe_id; t1 = t1_ns; t2 = t2_ns; t3 = t3_ns })) target.old target.new result }
-{
-    if target.len() < HEADER_LEN + 24 {
-        return Err(Refusal::NoRoom);
-    }
-    push_header(target, StreamType::TimeSyncResponse, probe_id, 0);
-    t1_ns.write_to(target, 16);
-    t2_ns.write_to(target, 24);
-    t3_ns.write_to(target, 32);
-    Ok(40)
 }
 
 #[derive(Clone, Copy, PartialEq, Eq, Debug)]
@@ -219,10 +201,29 @@ pub struct TimeSyncResponse {
     pub t3_ns: u64,
 }
 
+// Builds a time-sync response of 40 bytes, which has the request's t1 again and the server's receive and send times.
+// Its answer and its refusal are those of a request.
+pub fn build_time_sync_response(
+    target: &mut [u8],
+    response: TimeSyncResponse,
+) -> Result<usize, Refusal>
+    ensures { BuiltAs (build_response (response_of response)) target.old target.new result }
+{
+    if target.len() < HEADER_LEN + 24 {
+        return Err(Refusal::NoRoom);
+    }
+    push_header(target, StreamType::TimeSyncResponse, response.probe_id, 0);
+    response.t1_ns.write_to(target, 16);
+    response.t2_ns.write_to(target, 24);
+    response.t3_ns.write_to(target, 32);
+    Ok(40)
+}
+
 // The numbers of a time-sync response. Another type is refused, and so is a packet under 40 bytes. Magic and version
 // are not judged.
+#[tactic(auto, unfolding(model::specs::Framing::parse_response))]
 pub fn parse_time_sync_response(packet: &[u8]) -> Result<TimeSyncResponse, Refusal>
-    ensures { response_answer result ≡ or_refusal 10 (parse_response packet.now) }
+    ensures { answer_of response_of result ≡ or_refusal 10 (parse_response packet.now) }
 {
     let header = time_header(packet, StreamType::TimeSyncResponse, HEADER_LEN + 24)?;
     Ok(TimeSyncResponse {
@@ -240,18 +241,26 @@ pub struct OffsetRtt {
     pub rtt: i64,
 }
 
+// The low 64 bits of a number, as a signed number.
+#[tactic(auto, using(model::proofs::CastLaws::signed_of_bits, model::proofs::CastLaws::low_bits_of_signed), unfolding(model::specs::Clock::low64))]
+pub fn low_64(n: i128) -> i64
+    ensures { result ≡ low64 n }
+{
+    ((n.cast_unsigned() % (1 << 64)) as u64).cast_signed()
+}
+
 // From a probe's four times: ((t2 - t1) + (t3 - t4)) / 2 toward zero and (t4 - t1) - (t3 - t2), the low 64 bits of each.
 pub fn clock_offset_rtt(t: ProbeTimes) -> OffsetRtt
     ensures { Measured t result }
 {
-    let server = t.t2.carrying_add(t.t3, false);
-    let client = t.t1.carrying_add(t.t4, false);
-    let offset = half_difference(server, client);
-    let away = t.t4.wrapping_sub(t.t1);
-    let served = t.t3.wrapping_sub(t.t2);
-    let rtt = away.wrapping_sub(served);
+    let t1 = i128::from(t.t1);
+    let t2 = i128::from(t.t2);
+    let t3 = i128::from(t.t3);
+    let t4 = i128::from(t.t4);
+    let offset = ((t2 - t1) + (t3 - t4)) / 2;
+    let rtt = (t4 - t1) - (t3 - t2);
     OffsetRtt {
-        offset: as_signed(offset),
-        rtt: as_signed(rtt),
+        offset: low_64(offset),
+        rtt: low_64(rtt),
     }
 }

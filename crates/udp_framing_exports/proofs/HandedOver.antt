@@ -7,23 +7,21 @@ use mathlib.Core.List.{List}
 use lib.ListN.{length}
 use lib.Seq.{sets}
 use Rattle.model.specs.Bytes.{written_into}
-use Rattle.model.proofs.BoolLaws.{clash}
 use Rattle.udp_framing.specs.Views.{accepted, refused, or_refusal, answer_of}
 use Rattle.udp_framing.specs.Promises.{size_or_refusal, BuiltAs}
 use Rattle.udp_framing_exports.specs.Handing.{size_or0, numbers_found, HandedFrom, BuiltOr0}
-use Rattle.std.specs.Prelude.{Result, Ok, Err, None, Some, IsSomeAnd, MatchOption}
-use Rattle.std.specs.Prelude.{Option as Found}
+use Rattle.std.specs.Prelude.{Result, Ok, Err, None, Some, IsSomeAnd, MatchOption, Option as Found}
 use Rattle.std.specs.Result.{result_unwrap_or, result_ok}
 use Rattle.calls.specs.declared.Refusal.{Refusal}
 
 module _ {A : Type 0} where
   accepted_is_there : (number : ℕ) {a : A} (value : Option A) → accepted a ≡ or_refusal number value → some a ≡ value
-  accepted_is_there number none e = clash (cc)
+  accepted_is_there number none e = cc
   accepted_is_there number (some b) e = cc
 
   refused_is_missing : (number n : ℕ) (value : Option A) → refused n ≡ or_refusal number value → none ≡ value
   refused_is_missing number n none e = refl
-  refused_is_missing number n (some b) e = clash (cc)
+  refused_is_missing number n (some b) e = cc
 
   pub nothing_handed : (numbers_of : A → List ℕ) {value : Option A} (entry : List ℕ) → none ≡ value → HandedFrom numbers_of value entry entry false
   nothing_handed numbers_of entry e = record { found = rw (← e); numbers = rw (← e) }
@@ -49,19 +47,19 @@ pub handed_as : {A B : Type 0} (numbers_of : A → List ℕ) (view : B → A) (f
     → {value : Option A} → viewed view found ≡ value
     → {entry exit : List ℕ} {r : Bool} → HandedFrom (λ l. l) (numbers_found fields) entry exit r → HandedFrom numbers_of value entry exit r
 handed_as numbers_of view None None is e h = record { found = rw (← e) h.found; numbers = rw (← e) h.numbers }
-handed_as numbers_of view None (Some l) is e h = clash (cc)
+handed_as numbers_of view None (Some l) is e h = cc
 handed_as numbers_of view (Some b) None is e h = absurd is
 handed_as numbers_of view (Some b) (Some l) is e h = record { found = rw (← e) h.found; numbers = rw (← e, ← is) h.numbers }
 
 -- ---- sizes
 
 written_size : (size n : ℕ) (w : Option (List ℕ)) → accepted n ≡ size_or_refusal size w → n ≡ size_or0 size w
-written_size size n none e = clash (cc)
+written_size size n none e = cc
 written_size size n (some bytes) e = cc
 
 refused_size : (size n : ℕ) (w : Option (List ℕ)) → refused n ≡ size_or_refusal size w → 0 ≡ size_or0 size w
 refused_size size n none e = refl
-refused_size size n (some bytes) e = clash (cc)
+refused_size size n (some bytes) e = cc
 
 pub size_of_built : {packet entry exit : List ℕ} (answer : Result ℕ Refusal) {n : ℕ} → n ≡ result_unwrap_or answer 0
     → BuiltAs packet entry exit answer → BuiltOr0 packet entry exit n

@@ -1,12 +1,9 @@
 -- How values that may be missing go to a caller in another language: a bool, and numbers in a lent slice. Assumes nothing.
-use Rattle.std.specs.Prelude.{ℕ, ◌≡◌, Bool, true, false, List, [], ◌∷◌, length, None, Some}
-use Rattle.std.specs.Prelude.{Option as Found}
+use Rattle.std.specs.Prelude.{ℕ, ◌≡◌, Bool, true, false, List, [], ◌∷◌, length, None, Some, Option as Found}
 use Rattle.std.proofs.Math.Option.{Option, none, some}
 use Rattle.std.proofs.lemmas.List.Edits.{sets}
 use Rattle.model.specs.Bytes.{written_into}
 use Rattle.model.specs.Framing.{Header, TimeRequest, TimeResponse}
-use Rattle.udp_framing.specs.declared.TimeSyncRequest.{TimeSyncRequest}
-use Rattle.udp_framing.specs.declared.TimeSyncResponse.{TimeSyncResponse}
 use Rattle.udp_framing.specs.Promises.{or_unchanged}
 
 abbrev pub is_there : {A : Type 0} → Option A → Bool
@@ -34,12 +31,6 @@ request_numbers r = r.probe ∷ r.t1 ∷ []
 
 abbrev pub response_numbers : TimeResponse → List ℕ
 response_numbers r = r.probe ∷ r.t1 ∷ r.t2 ∷ r.t3 ∷ []
-
-abbrev pub request_of : TimeSyncRequest → TimeRequest
-request_of q = record { probe = q.probe_id; t1 = q.t1_ns }
-
-abbrev pub response_of : TimeSyncResponse → TimeResponse
-response_of q = record { probe = q.probe_id; t1 = q.t1_ns; t2 = q.t2_ns; t3 = q.t3_ns }
 
 -- whether a value is there, and its numbers from the front of a slice on, as far as it goes
 pub record HandedFrom {A : Type 0} (numbers_of : A → List ℕ) (value : Option A) (entry exit : List ℕ) (r : Bool) : Type 0 where

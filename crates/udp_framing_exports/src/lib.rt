@@ -6,12 +6,12 @@
 ghost use Rattle.std.specs.Prelude.{◌≡◌};
 ghost use Rattle.model.specs.Framing.{parse_header, valid_header, audio_start, audio_send_time, build_request, build_response, parse_request, parse_response};
 ghost use Rattle.model.specs.Clock.{probe_offset, probe_round_trip};
-ghost use Rattle.udp_framing.specs.Views.{header_of};
-ghost use Rattle.udp_framing_exports.specs.Handing.{header_with, header_numbers, time_numbers, request_numbers, response_numbers, request_of, response_of, numbers_found, HandedFrom, BuiltOr0};
+ghost use Rattle.udp_framing.specs.Views.{header_of, request_of, response_of};
+ghost use Rattle.udp_framing_exports.specs.Handing.{header_with, header_numbers, time_numbers, request_numbers, response_numbers, numbers_found, HandedFrom, BuiltOr0};
 
 use calls::ProbeTimes;
 use numbers::put;
-use udp_framing::MediaHeader;
+use udp_framing::{MediaHeader, TimeSyncRequest, TimeSyncResponse};
 
 // A value's numbers at the front of the slice, and whether there is a value.
 fn handed<const N: usize>(numbers: &mut [u64], fields: Option<[u64; N]>) -> bool
@@ -100,7 +100,7 @@ pub extern "C" fn udp_framing_build_time_sync_request(
 ) -> usize
     ensures { BuiltOr0 (build_request (record { probe = probe_id; t1 = t1_ns })) target.old target.new result }
 {
-    udp_framing::build_time_sync_request(target, probe_id, t1_ns).unwrap_or(0)
+    udp_framing::build_time_sync_request(target, TimeSyncRequest { probe_id, t1_ns }).unwrap_or(0)
 }
 
 // The number of bytes that were written; 0 where the target is too short.
@@ -114,7 +114,13 @@ pub extern "C" fn udp_framing_build_time_sync_response(
 ) -> usize
     ensures { BuiltOr0 (build_response (record { probe = probe_id; t1 = t1_ns; t2 = t2_ns; t3 = t3_ns })) target.old target.new result }
 {
-    udp_framing::build_time_sync_response(target, probe_id, t1_ns, t2_ns, t3_ns).unwrap_or(0)
+    let response = TimeSyncResponse {
+        probe_id,
+        t1_ns,
+        t2_ns,
+        t3_ns,
+    };
+    udp_framing::build_time_sync_response(target, response).unwrap_or(0)
 }
 
 // The probe's number and t1.

@@ -21,7 +21,11 @@ fn built(
 
 fn build_requests(b: &mut Bench) {
     let mut target = [7u8; 26];
-    let answer = udp_framing::build_time_sync_request(&mut target, 0x01020304, 0x1122334455667788);
+    let request = TimeSyncRequest {
+        probe_id: 0x01020304,
+        t1_ns: 0x1122334455667788,
+    };
+    let answer = udp_framing::build_time_sync_request(&mut target, request);
     built(
         b,
         answer,
@@ -30,19 +34,19 @@ fn build_requests(b: &mut Bench) {
         b"\x52\x53\x02\x0c\x01\x02\x03\x04\x00\x00\x00\x00\x00\x00\x00\x00\x11\x22\x33\x44\x55\x66\x77\x88\x07\x07",
     );
     let mut short = [7u8; 23];
-    let refused = udp_framing::build_time_sync_request(&mut short, 1, 1);
+    let refused = udp_framing::build_time_sync_request(&mut short, request);
     built(b, refused, Err(Refusal::NoRoom), &short, &[7u8; 23]);
 }
 
 fn build_responses(b: &mut Bench) {
     let mut target = [7u8; 40];
-    let answer = udp_framing::build_time_sync_response(
-        &mut target,
-        0xfffffffe,
-        1,
-        0xffffffffffffffff,
-        0x8000000000000000,
-    );
+    let response = TimeSyncResponse {
+        probe_id: 0xfffffffe,
+        t1_ns: 1,
+        t2_ns: 0xffffffffffffffff,
+        t3_ns: 0x8000000000000000,
+    };
+    let answer = udp_framing::build_time_sync_response(&mut target, response);
     built(
         b,
         answer,
@@ -51,7 +55,7 @@ fn build_responses(b: &mut Bench) {
         b"\x52\x53\x02\x0d\xff\xff\xff\xfe\x00\x00\x00\x00\x00\x00\x00\x00\x00\x00\x00\x00\x00\x00\x00\x01\xff\xff\xff\xff\xff\xff\xff\xff\x80\x00\x00\x00\x00\x00\x00\x00",
     );
     let mut short = [7u8; 39];
-    let refused = udp_framing::build_time_sync_response(&mut short, 1, 1, 1, 1);
+    let refused = udp_framing::build_time_sync_response(&mut short, response);
     built(b, refused, Err(Refusal::NoRoom), &short, &[7u8; 39]);
 }
 

@@ -1,13 +1,13 @@
 -- What a waterfall payload leaves, from what its chunk and the row that it completed leave. Assumes nothing.
 use Rattle.std.proofs.Common.{Option, None, Some}
-use mathlib.Core.Path.{◌≡◌, refl, sym, ◌∙◌, subst}
+use mathlib.Core.Path.{◌≡◌, refl, sym, ◌∙◌, ap, subst}
 use mathlib.Core.Bool.{true, and-eq-true_iff}
 use mathlib.Core.List.{List, ◌++◌}
-use Prim.Native.Nat.{ℕ, ◌+◌, ◌-◌, ◌*◌, ◌≤◌}
+use Prim.Native.Nat.{ℕ, ◌+◌, ◌*◌, ◌≤◌}
 use native.Mathlib.Nat.{zero-add}
 use native.Mathlib.Omega.{arith}
 use lib.ListN.{length, take, drop, length-append, length-drop, length-take}
-use lib.Seq.{take_all, take-append-le, length-take-le}
+use lib.Seq.{drop_at, drop-drop, take_all, take-append-le, length-take-le}
 use lib.Dec.{leb, ltb}
 use lib.Ieee.{Float, nan}
 use borrow.Author.Tests.{leb-true, ltb-true, le-leb}
@@ -51,15 +51,12 @@ push_fits z s payload xs held allowed long =
     }
 
 -- ---- after
-module _ (z : Sizes) (s : Screen) (work : ℕ) (rows : List Float) (picture payload : List ℕ)
-    (ready : ScreenReady z s (length rows) work (length picture)) (allowed : total_allowed (sizes_of z) payload ≡ true)
-    (p : Pushed) (after : List Float) (as_long : length after ≡ z.bins) (pushed : PushedAs (push_chunk payload (row_of s.row (take z.bins rows))) p after) where
+module _ (z : Sizes) (s : Screen) (sorting : ℕ) (rows : List Float) (picture payload : List ℕ)
+    (ready : ScreenReady z s (length rows) sorting (length picture)) (allowed : total_allowed (sizes_of z) payload ≡ true)
+    (p : Pushed (Option OpenRow)) (after : List Float) (as_long : length after ≡ z.bins) (pushed : PushedAs (push_chunk payload (row_of s.row (take z.bins rows))) p after) where
   -- the lent part put back
   abbrev pub rows_pushed : List Float
   rows_pushed = after ++ drop z.bins rows
-
-  fits : 3 * z.bins ≤ length rows
-  fits = omega (arith, ready.behind, ready.fits)
 
   front_lent : take z.bins (take z.bins rows) ≡ take z.bins rows
   front_lent = take_all z.bins (take z.bins rows) (simp length-take (omega arith))
@@ -74,47 +71,49 @@ module _ (z : Sizes) (s : Screen) (work : ℕ) (rows : List Float) (picture payl
       rw same at (part_behind nan 0 after rows at k (omega (arith, as_long)) inside)
 
   pub rows_pushed_length : length rows_pushed ≡ length rows
-  rows_pushed_length = simp (length-append, length-drop) (omega (arith, as_long, fits))
+  rows_pushed_length = simp (length-append, length-drop) (omega (arith, as_long, ready.fits))
 
   abbrev pub screen_after : Screen
-  screen_after = record { row = p.row; spectrum_len = s.spectrum_len; smooth_len = s.smooth_len; display = s.display }
+  screen_after = record { row = p.state; spectrum_len = s.spectrum_len; smooth_len = s.smooth_len; display = s.display }
 
   after_asked : screen_asked z.bins screen_after ≡ true
   after_asked =
       screen_still_asked z s payload rows rows_pushed (take z.bins rows) after p ready.held allowed front_lent
-      (omega (arith, length-take-le z.bins rows (omega (arith, fits)))) front_left pushed
+      (omega (arith, length-take-le z.bins rows (omega (arith, ready.fits)))) front_left pushed
 
-  pub ready_after : ScreenReady z screen_after (length rows_pushed) work (length picture)
-  ready_after = record { allowed = ready.allowed; held = after_asked; behind = ready.behind; fits = omega (arith, ready.fits, rows_pushed_length); whole = ready.whole }
+  pub ready_after : ScreenReady z screen_after (length rows_pushed) sorting (length picture)
+  ready_after = record { allowed = ready.allowed; held = after_asked; fits = omega (arith, ready.fits, rows_pushed_length); room = ready.room; whole = ready.whole }
 
   pub completed_inside : (n : ℕ) → p.completed ≡ Some n → (1 ≤ n) × (n ≤ z.bins)
   completed_inside n is =
       let h = subst (λ (x : Option ℕ). CompletedInside x (length after)) is pushed.inside in
       (h.0, omega (arith, h.1, as_long))
 
-  between_after : part (3 * z.bins) (work - 3 * z.bins) rows_pushed ≡ part (3 * z.bins) (work - 3 * z.bins) rows
-  between_after = behind_stays (3 * z.bins) (work - 3 * z.bins) (omega arith) (omega (arith, ready.behind, ready.fits))
+  behind_after : drop (3 * z.bins) rows_pushed ≡ drop (3 * z.bins) rows
+  behind_after =
+      let later : 3 * z.bins ≡ z.bins + 2 * z.bins = omega arith in
+      rw later (sym (drop-drop (2 * z.bins) z.bins rows_pushed) ∙ ap (drop (2 * z.bins)) (drop_at after (drop z.bins rows) z.bins as_long) ∙ drop-drop (2 * z.bins) z.bins rows)
 
   pub chunk_completes_none : p.completed ≡ None
-      → WaterfallHandled z s rows work picture payload (record { screen = screen_after; completed = None }) rows_pushed picture
+      → WaterfallHandled z s rows picture payload (record { state = screen_after; completed = None }) rows_pushed picture
   chunk_completes_none is =
       let lengths = asked_lengths z.bins s ready.held in
       record {
         step = λ b.
             none_completed z s payload rows rows_pushed (take z.bins rows) after p ready.held allowed front_lent
-            (omega (arith, length-take-le z.bins rows (omega (arith, fits)))) front_left pushed b picture
-            (behind_stays z.bins s.spectrum_len (omega arith) (omega (arith, fits, lengths.0)))
-            (behind_stays (2 * z.bins) s.smooth_len (omega arith) (omega (arith, fits, lengths.1))) is;
+            (omega (arith, length-take-le z.bins rows (omega (arith, ready.fits)))) front_left pushed b picture
+            (behind_stays z.bins s.spectrum_len (omega arith) (omega (arith, ready.fits, lengths.0)))
+            (behind_stays (2 * z.bins) s.smooth_len (omega arith) (omega (arith, ready.fits, lengths.1))) is;
         inside = tt;
-        between = between_after;
+        behind = behind_after;
         held = after_asked;
         rows_as_long = rows_pushed_length;
         picture_as_long = refl;
       }
 
   pub chunk_completes_one : (n : ℕ) (shown : Screen) (rows' : List Float) (picture' : List ℕ) → p.completed ≡ Some n
-      → RowShown z screen_after rows_pushed n work picture shown rows' picture' → length rows' ≡ length rows_pushed → length picture' ≡ length picture
-      → WaterfallHandled z s rows work picture payload (record { screen = shown; completed = Some n }) rows' picture'
+      → RowShown z screen_after rows_pushed n picture shown rows' picture' → length rows' ≡ length rows_pushed → length picture' ≡ length picture
+      → WaterfallHandled z s rows picture payload (record { state = shown; completed = Some n }) rows' picture'
   chunk_completes_one n shown rows' picture' is r rows-kept picture-kept =
       let lengths = asked_lengths z.bins s ready.held in
       let few = (completed_inside n is).1 in
@@ -123,12 +122,12 @@ module _ (z : Sizes) (s : Screen) (work : ℕ) (rows : List Float) (picture payl
       record {
         step = λ b.
             one_completed z s payload rows rows_pushed (take z.bins rows) after p ready.held allowed front_lent
-            (omega (arith, length-take-le z.bins rows (omega (arith, fits)))) front_left pushed b picture
-            (behind_stays z.bins s.spectrum_len (omega arith) (omega (arith, fits, lengths.0)))
-            (behind_stays (2 * z.bins) s.smooth_len (omega arith) (omega (arith, fits, lengths.1))) n is
+            (omega (arith, length-take-le z.bins rows (omega (arith, ready.fits)))) front_left pushed b picture
+            (behind_stays z.bins s.spectrum_len (omega arith) (omega (arith, ready.fits, lengths.0)))
+            (behind_stays (2 * z.bins) s.smooth_len (omega arith) (omega (arith, ready.fits, lengths.1))) n is
             ∙ rw (values, r.step b, values');
         inside = completed_inside n is;
-        between = r.between ∙ between_after;
+        behind = r.behind ∙ behind_after;
         held = r.held;
         rows_as_long = rows-kept ∙ rows_pushed_length;
         picture_as_long = picture-kept;

@@ -1,7 +1,7 @@
 -- A channel in lent memory takes the model's step: a row that is shown, and a chunk that completes none or one. Assumes nothing.
 use Rattle.std.proofs.Common.{Option, None, Some}
 use mathlib.Core.Path.{◌≡◌, refl, sym, ◌∙◌, ap, subst}
-use mathlib.Core.Bool.{Bool, true, false, beq, and-eq-true_iff}
+use mathlib.Core.Bool.{true, and-eq-true_iff}
 use mathlib.Core.Option as Maybe
 use mathlib.Core.Option.{none, some}
 use mathlib.Core.List.{List}
@@ -20,7 +20,7 @@ use Rattle.model.specs.Picture.{picture_after}
 use Rattle.model.specs.Receiver.{row}
 use Rattle.model.specs.Questions.{row_held, total_allowed}
 use Rattle.model.specs.Step.{shown_row, chunk_result, waterfall_into}
-use Rattle.model.proofs.BoolLaws.{both_and, first_of_both, second_of_both}
+use Rattle.model.proofs.BoolLaws.{both_and, first_of_both, second_of_both, beq_equal}
 use Rattle.model.proofs.ListLaws.{alike_shorter}
 use Rattle.model.proofs.RowLaws.{RowKept, push_chunk_keeps, row_kept_held}
 use Rattle.calls.specs.declared.Sizes.{Sizes}
@@ -42,12 +42,6 @@ row_in_front bins None xs ys asked alike = refl
 row_in_front bins (Some r) xs ys asked alike =
     let fits = leb-true r.total_bins bins (first_of_both (leb r.total_bins bins) _ asked) in
     rw (alike_shorter r.total_bins bins xs ys fits alike)
-
-beq_equal : (a b : Bool) → beq a b ≡ true → a ≡ b
-beq_equal true true e = refl
-beq_equal true false e = sym e
-beq_equal false true e = e
-beq_equal false false e = refl
 
 pub asked_kept : (z : Sizes) (r : Option OpenRow) (xs : List Float) → row_asked z.bins r ≡ true → z.bins ≤ length xs → RowKept (sizes_of z) (row_of r xs)
 unfolding row_asked
@@ -96,7 +90,7 @@ result_of : (r : RowResult) (kept : Maybe.Option Row) (completed : Maybe.Option 
 result_of r kept completed row_is completed-is = rw (row_is, completed-is)
 
 -- the row of a chunk, in the first bins: `before` is that part at entry and `after` at exit
-module _ (z : Sizes) (s : Screen) (payload : List ℕ) (rows rows' before after : List Float) (p : Pushed)
+module _ (z : Sizes) (s : Screen) (payload : List ℕ) (rows rows' before after : List Float) (p : Pushed (Option OpenRow))
     (held : screen_asked z.bins s ≡ true) (allowed : total_allowed (sizes_of z) payload ≡ true)
     (lent : take z.bins before ≡ take z.bins rows) (long : z.bins ≤ length before)
     (left : take z.bins after ≡ take z.bins rows') (pushed : PushedAs (push_chunk payload (row_of s.row before)) p after) where
@@ -104,21 +98,21 @@ module _ (z : Sizes) (s : Screen) (payload : List ℕ) (rows rows' before after 
   unfolding screen_asked
   row_asked_law = first_of_both (row_asked z.bins s.row) _ held
 
-  pub row_still_asked : row_asked z.bins p.row ≡ true
+  pub row_still_asked : row_asked z.bins p.state ≡ true
   row_still_asked =
-      kept_asked z p.row after
+      kept_asked z p.state after
       (subst (RowKept (sizes_of z)) (sym pushed.row) (push_chunk_keeps (sizes_of z) payload (row_of s.row before) allowed (asked_kept z s.row before row_asked_law long)))
 
   -- the model's chunk, from the whole list and to it
-  chunk_pushed : push_chunk payload (row_of s.row rows) ≡ record { row = row_of p.row rows'; completed = completed_of p.completed after }
+  chunk_pushed : push_chunk payload (row_of s.row rows) ≡ record { row = row_of p.state rows'; completed = completed_of p.completed after }
   chunk_pushed =
       ap (push_chunk payload) (sym (row_in_front z.bins s.row before rows row_asked_law lent))
-      ∙ result_of _ (row_of p.row after) (completed_of p.completed after) pushed.row pushed.completed
-      ∙ ap (λ (r : Maybe.Option Row). record { row = r; completed = completed_of p.completed after }) (row_in_front z.bins p.row after rows' row_still_asked left)
+      ∙ result_of _ (row_of p.state after) (completed_of p.completed after) pushed.row pushed.completed
+      ∙ ap (λ (r : Maybe.Option Row). record { row = r; completed = completed_of p.completed after }) (row_in_front z.bins p.state after rows' row_still_asked left)
 
   -- the screen with the chunk's row
   abbrev screen_pushed : Screen
-  screen_pushed = record { row = p.row; spectrum_len = s.spectrum_len; smooth_len = s.smooth_len; display = s.display }
+  screen_pushed = record { row = p.state; spectrum_len = s.spectrum_len; smooth_len = s.smooth_len; display = s.display }
 
   pub screen_still_asked : screen_asked z.bins screen_pushed ≡ true
   unfolding screen_asked
@@ -134,6 +128,6 @@ module _ (z : Sizes) (s : Screen) (payload : List ℕ) (rows rows' before after 
 
     pub one_completed : (n : ℕ) → p.completed ≡ Some n
         → waterfall_into (sizes_of z) payload (channel_of z b s rows picture)
-        ≡ record { after = shown_row (sizes_of z) (row_of p.row rows') (take n after) (channel_of z b screen_pushed rows' picture); answer = row (some (take n after)) }
+        ≡ record { after = shown_row (sizes_of z) (row_of p.state rows') (take n after) (channel_of z b screen_pushed rows' picture); answer = row (some (take n after)) }
     unfolding waterfall_into chunk_result shown_row
     one_completed n is = rw (chunk_pushed, is, spectrum-stays, smoothing-stays)

@@ -2,7 +2,7 @@
 use mathlib.Core.Path.{◌≡◌, ◌∙◌, ap}
 use mathlib.Core.Bool.{true}
 use mathlib.Core.List.{List, ◌++◌}
-use Prim.Native.Nat.{ℕ, ◌-◌, ◌*◌, ◌≤◌}
+use Prim.Native.Nat.{ℕ, ◌*◌, ◌≤◌}
 use native.Mathlib.Omega.{arith}
 use lib.ListN.{length, take, drop}
 use lib.Seq.{length-take-le, take_at}
@@ -19,7 +19,7 @@ use Rattle.udp.specs.declared.Display.{Display}
 use Rattle.udp_packets.specs.declared.Screen.{Screen}
 use Rattle.udp.specs.Views.{display_of}
 use Rattle.udp_packets.specs.Packets.{row_asked, screen_asked, ScreenReady, RowShown}
-use Rattle.udp_packets.proofs.RowParts.{RowSplit, row_part, spectrum_part, smooth_part, row_kept, spectrum_shown, smooth_shown, between_kept}
+use Rattle.udp_packets.proofs.RowParts.{RowSplit, row_part, spectrum_part, smooth_part, row_kept, spectrum_shown, smooth_shown, behind_kept}
 use Rattle.udp_packets.proofs.Screens.{asked_lengths, row_in_front, row_shown}
 
 -- a running row with a new front of n bins
@@ -33,25 +33,21 @@ module _ {values entry exit : List Float} {k : ℕ} (n : ℕ) (new : InFront val
   pub front_new : take k exit ≡ values
   front_new = rw (bins_new, row_new) (take_at values _ n long)
 
--- the parts of the rows, and what is left of the rest
-module _ (z : Sizes) (s : Screen) (n work : ℕ) (rows front spectrum smooth rest used : List Float) (picture picture' : List ℕ) (d : Display)
-    (ready : ScreenReady z s (length rows) work (length picture)) (few : n ≤ z.bins)
-    (split : RowSplit z.bins rows front spectrum smooth rest)
-    (free : take (work - 3 * z.bins) used ≡ take (work - 3 * z.bins) rest)
+-- the parts of the rows
+module _ (z : Sizes) (s : Screen) (n sorting : ℕ) (rows front spectrum smooth : List Float) (picture picture' : List ℕ) (d : Display)
+    (ready : ScreenReady z s (length rows) sorting (length picture)) (few : n ≤ z.bins)
+    (split : RowSplit z.bins rows front spectrum smooth)
     (display : display_of d ≡ display_after (take n front) (display_of s.display))
     (drawn : picture' ≡ picture_after z.width z.height (shown_top (display_of d)) (shown_range (display_of d)) d.zoom
     (smoothing_after d.smoothing (take n front) (take s.smooth_len smooth)) picture) where
   abbrev left : Screen
   left = record { row = s.row; spectrum_len = n; smooth_len = n; display = d }
 
-  fits : 3 * z.bins ≤ length rows
-  fits = omega (arith, ready.behind, ready.fits)
-
   row_is : take n front ≡ take n rows
-  row_is = row_part split fits n few
+  row_is = row_part split ready.fits n few
 
   row_length_law : length (take n front) ≡ n
-  row_length_law = ap length row_is ∙ length-take-le n rows (omega (arith, fits))
+  row_length_law = ap length row_is ∙ length-take-le n rows (omega (arith, ready.fits))
 
   abbrev new_spectrum : List Float
   new_spectrum = spectrum_after (take n front) (take s.spectrum_len spectrum)
@@ -66,10 +62,10 @@ module _ (z : Sizes) (s : Screen) (n work : ℕ) (rows front spectrum smooth res
   new_smoothing_length = smoothing_length d.smoothing (take n front) _ ∙ row_length_law
 
   abbrev rows' : List Float
-  rows' = front ++ ((new_spectrum ++ drop n spectrum) ++ ((new_smoothing ++ drop n smooth) ++ used))
+  rows' = front ++ ((new_spectrum ++ drop n spectrum) ++ (new_smoothing ++ drop n smooth))
 
   row_stays : take z.bins rows' ≡ take z.bins rows
-  row_stays = row_kept split fits n (work - 3 * z.bins) few new_spectrum new_smoothing used new_spectrum_length new_smoothing_length free
+  row_stays = row_kept split ready.fits n few new_spectrum new_smoothing new_spectrum_length new_smoothing_length
 
   row_asked_law : row_asked z.bins s.row ≡ true
   unfolding screen_asked
@@ -80,14 +76,14 @@ module _ (z : Sizes) (s : Screen) (n work : ℕ) (rows front spectrum smooth res
 
   spectrum_is : part z.bins n rows' ≡ spectrum_after (take n rows) (part z.bins s.spectrum_len rows)
   spectrum_is =
-      spectrum_shown split fits n (work - 3 * z.bins) few new_spectrum new_smoothing used new_spectrum_length new_smoothing_length free
-      ∙ rw (row_is, spectrum_part split fits s.spectrum_len (asked_lengths z.bins s ready.held).0)
+      spectrum_shown split ready.fits n few new_spectrum new_smoothing new_spectrum_length new_smoothing_length
+      ∙ rw (row_is, spectrum_part split ready.fits s.spectrum_len (asked_lengths z.bins s ready.held).0)
 
   smoothing_shown : part (2 * z.bins) n rows' ≡ new_smoothing
-  smoothing_shown = smooth_shown split fits n (work - 3 * z.bins) few new_spectrum new_smoothing used new_spectrum_length new_smoothing_length free
+  smoothing_shown = smooth_shown split ready.fits n few new_spectrum new_smoothing new_spectrum_length new_smoothing_length
 
   smoothing_is : part (2 * z.bins) n rows' ≡ smoothing_after d.smoothing (take n rows) (part (2 * z.bins) s.smooth_len rows)
-  smoothing_is = smoothing_shown ∙ rw (row_is, smooth_part split fits s.smooth_len (asked_lengths z.bins s ready.held).1)
+  smoothing_is = smoothing_shown ∙ rw (row_is, smooth_part split ready.fits s.smooth_len (asked_lengths z.bins s ready.held).1)
 
   picture_is : picture' ≡ picture_after z.width z.height (shown_top (display_of d)) (shown_range (display_of d)) d.zoom (part (2 * z.bins) n rows') picture
   picture_is = rw (← smoothing_shown) at drawn
@@ -96,11 +92,11 @@ module _ (z : Sizes) (s : Screen) (n work : ℕ) (rows front spectrum smooth res
   unfolding screen_asked
   still_asked = both_and row_asked_law (both_and (le-leb n z.bins few) (le-leb n z.bins few))
 
-  pub show_row_shows : RowShown z s rows n work picture left rows' picture'
+  pub show_row_shows : RowShown z s rows n picture left rows' picture'
   show_row_shows =
       record {
         step = λ b. row_shown z s b n rows rows' picture picture' d (row_in_front z.bins s.row rows' rows row_asked_law row_stays) display_is spectrum_is smoothing_is picture_is;
         front = row_stays;
-        between = between_kept split fits n (work - 3 * z.bins) few new_spectrum new_smoothing used new_spectrum_length new_smoothing_length free;
+        behind = behind_kept split ready.fits n few new_spectrum new_smoothing new_spectrum_length new_smoothing_length;
         held = still_asked;
       }

@@ -1,5 +1,5 @@
 -- What the functions of a datagram's payload promise: what they leave is what the model's step leaves of the channel. Assumes nothing.
-use Rattle.std.specs.Prelude.{◌≡◌, Bool, true, ◌&&◌, Option, None, Some, List, ℕ, ◌+◌, ◌-◌, ◌*◌, ◌≤◌, length, take, leb, ltb, Float}
+use Rattle.std.specs.Prelude.{◌≡◌, Bool, true, ◌&&◌, Option, None, Some, List, ℕ, ◌*◌, ◌≤◌, length, take, drop, leb, ltb, Float}
 use Rattle.std.specs.Bool.{beq}
 use Rattle.std.proofs.Math.Option.{none}
 use Rattle.model.specs.Bytes.{part}
@@ -14,8 +14,8 @@ use Rattle.jitter_buffer.specs.declared.JitterBuffer.{JitterBuffer}
 use Rattle.jitter_buffer.specs.View.{view_of}
 use Rattle.jitter_buffer.specs.Promises.{AsLong}
 use Rattle.reassembler.specs.declared.OpenRow.{OpenRow}
+use Rattle.reassembler.specs.declared.Pushed.{Pushed}
 use Rattle.udp_packets.specs.declared.Screen.{Screen}
-use Rattle.udp_packets.specs.declared.Handled.{Handled}
 use Rattle.reassembler.specs.Rows.{row_of, completed_of, CompletedInside}
 use Rattle.udp.specs.Views.{display_of}
 
@@ -59,28 +59,28 @@ channel_of z b s rows picture =
       display = display_of s.display;
     }
 
--- allowed sizes, a screen that could be held, a work section behind the rows with nothing behind it, and a whole picture
-pub record ScreenReady (z : Sizes) (s : Screen) (rows work picture : ℕ) : Type 0 where
+-- allowed sizes, a screen that could be held, room for the rows and for a sort, and a whole picture
+pub record ScreenReady (z : Sizes) (s : Screen) (rows sorting picture : ℕ) : Type 0 where
   pub allowed : sizes_allowed (sizes_of z) ≡ true
   pub held : screen_asked z.bins s ≡ true
-  pub behind : 3 * z.bins ≤ work
-  pub fits : work + z.bins ≡ rows
+  pub fits : 3 * z.bins ≤ rows
+  pub room : z.bins ≤ sorting
   pub whole : picture ≡ z.width * z.height
 
--- the row of n bins in front is shown; it stays, and so does what lies between the rows and the work section
-pub record RowShown (z : Sizes) (s : Screen) (rows : List Float) (n work : ℕ) (picture : List ℕ) (r : Screen) (rows' : List Float) (picture' : List ℕ) : Type 0 where
+-- the row of n bins in front is shown; it stays, and so does what lies behind the rows
+pub record RowShown (z : Sizes) (s : Screen) (rows : List Float) (n : ℕ) (picture : List ℕ) (r : Screen) (rows' : List Float) (picture' : List ℕ) : Type 0 where
   pub step : (b : Buffer Float) → shown_row (sizes_of z) (row_of s.row rows) (take n rows) (channel_of z b s rows picture) ≡ channel_of z b r rows' picture'
   pub front : take z.bins rows' ≡ take z.bins rows
-  pub between : part (3 * z.bins) (work - 3 * z.bins) rows' ≡ part (3 * z.bins) (work - 3 * z.bins) rows
+  pub behind : drop (3 * z.bins) rows' ≡ drop (3 * z.bins) rows
   pub held : screen_asked z.bins r ≡ true
 
 -- a waterfall payload: the channel and the answer are the model's, whatever waits in the jitter buffer; a completed row has 1 to bins values
-pub record WaterfallHandled (z : Sizes) (s : Screen) (rows : List Float) (work : ℕ) (picture payload : List ℕ) (r : Handled) (rows' : List Float) (picture' : List ℕ) : Type 0 where
+pub record WaterfallHandled (z : Sizes) (s : Screen) (rows : List Float) (picture payload : List ℕ) (r : Pushed Screen) (rows' : List Float) (picture' : List ℕ) : Type 0 where
   pub step : (b : Buffer Float)
       → waterfall_into (sizes_of z) payload (channel_of z b s rows picture)
-      ≡ record { after = channel_of z b r.screen rows' picture'; answer = row (completed_of r.completed rows') }
+      ≡ record { after = channel_of z b r.state rows' picture'; answer = row (completed_of r.completed rows') }
   pub inside : CompletedInside r.completed z.bins
-  pub between : part (3 * z.bins) (work - 3 * z.bins) rows' ≡ part (3 * z.bins) (work - 3 * z.bins) rows
-  pub held : screen_asked z.bins r.screen ≡ true
+  pub behind : drop (3 * z.bins) rows' ≡ drop (3 * z.bins) rows
+  pub held : screen_asked z.bins r.state ≡ true
   pub rows_as_long : length rows' ≡ length rows
   pub picture_as_long : length picture' ≡ length picture

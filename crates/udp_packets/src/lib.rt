@@ -12,7 +12,7 @@ ghost use Rattle.udp_packets.specs.Packets.{AudioHandled, row_asked, screen_aske
 
 use calls::Sizes;
 use jitter_buffer::JitterBuffer;
-use reassembler::OpenRow;
+use reassembler::{OpenRow, Pushed};
 use udp::Display;
 use udp_framing::big_endian::BigEndian;
 
@@ -25,6 +25,7 @@ fn holds_samples(payload: &[u8]) -> bool
 }
 
 // An audio payload: one that holds no samples stops here, another is pushed.
+#[tactic(auto, using(crate::proofs::Audio::audio_pushes, crate::proofs::Audio::audio_stops))]
 pub fn handle_audio_packet(
     jitter: JitterBuffer,
     z: Sizes,
@@ -53,13 +54,6 @@ pub struct Screen {
     pub display: Display,
 }
 
-// What a waterfall payload leaves, and the bins of the row that it completed, if it did.
-#[derive(Clone, Copy)]
-pub struct Handled {
-    pub screen: Screen,
-    pub completed: Option<usize>,
-}
-
 // Question 3 for a row: whether a receiver with rows of at most so many bins could hold it.
 #[tactic(auto, unfolding(crate::specs::Packets::row_asked))]
 fn row_could_be_held(row: Option<OpenRow>, bins: usize) -> bool
@@ -74,6 +68,7 @@ fn row_could_be_held(row: Option<OpenRow>, bins: usize) -> bool
 
 impl Screen {
     // No row, nothing shown, and the settings that a receiver starts with; the three estimates come with its setup.
+    #[tactic(auto, using(crate::proofs::Fresh::starts))]
     pub fn new(top_estimate: f32, floor_estimate: f32, range_estimate: f32) -> Self
         ensures { FreshScreen top_estimate floor_estimate range_estimate result }
     {
@@ -113,25 +108,23 @@ pub fn total_allowed(z: Sizes, payload: &[u8]) -> bool
 }
 
 // Shows the row of n bins that `rows` begins with: the spectrum and the estimates follow the raw row, then smoothing does,
-// and the smoothed row is drawn. In `rows` the spectrum stands from bins on and smoothing from 2 × bins on; from `work` on
-// is room for a sort.
+// and the smoothed row is drawn. In `rows` the spectrum stands from bins on and smoothing from 2 × bins on; `sorting` is room
+// for a sort.
 fn show_row(
     screen: Screen,
     z: Sizes,
     rows: &mut [f32],
     n: usize,
-    work: usize,
+    sorting: &mut [f32],
     picture: &mut [u32],
 ) -> Screen
-    requires { ScreenReady z screen (length rows.old) work (length picture.old) × (1 ≤ n) × (n ≤ z.bins) }
-    ensures { RowShown z screen rows.old n work picture.old result rows.new picture.new }
+    requires { ScreenReady z screen (length rows.old) (length sorting.old) (length picture.old) × (1 ≤ n) × (n ≤ z.bins) }
+    ensures { RowShown z screen rows.old n picture.old result rows.new picture.new }
 {
     let bins = z.bins;
     let (front, behind) = rows.split_at_mut(bins);
     let row = &front[..n];
-    let (spectrum, behind) = behind.split_at_mut(bins);
-    let (smooth, behind) = behind.split_at_mut(bins);
-    let sorting = &mut behind[work - 3 * bins..];
+    let (spectrum, smooth) = behind.split_at_mut(bins);
     let spectrum_len = spectrum_utils::update_spectrum_db(row, spectrum, screen.spectrum_len);
     let display = udp::update_adaptive_waterfall_display(screen.display, row, sorting);
     let smooth_len = udp::smooth_row(row, smooth, screen.smooth_len, display.smoothing);
@@ -157,28 +150,28 @@ pub fn handle_waterfall_packet(
     screen: Screen,
     z: Sizes,
     rows: &mut [f32],
-    work: usize,
+    sorting: &mut [f32],
     picture: &mut [u32],
     payload: &[u8],
-) -> Handled
-    requires { ScreenReady z screen (length rows.old) work (length picture.old) × (total_allowed (sizes_of z) payload.now ≡ true) }
-    ensures { WaterfallHandled z screen rows.old work picture.old payload.now result rows.new picture.new }
+) -> Pushed<Screen>
+    requires { ScreenReady z screen (length rows.old) (length sorting.old) (length picture.old) × (total_allowed (sizes_of z) payload.now ≡ true) }
+    ensures { WaterfallHandled z screen rows.old picture.old payload.now result rows.new picture.new }
 {
     let bins = z.bins;
     let pushed = reassembler::push_chunk(screen.row, &mut rows[..bins], payload);
     let filled = Screen {
-        row: pushed.row,
+        row: pushed.state,
         ..screen
     };
     let Some(n) = pushed.completed else {
-        return Handled {
-            screen: filled,
+        return Pushed {
+            state: filled,
             completed: None,
         };
     };
-    let shown = show_row(filled, z, rows, n, work, picture);
-    Handled {
-        screen: shown,
+    let shown = show_row(filled, z, rows, n, sorting, picture);
+    Pushed {
+        state: shown,
         completed: Some(n),
     }
 }

@@ -3,24 +3,24 @@ ghost use Rattle.std.specs.Prelude.{◌≤◌, length};
 ghost use Rattle.io.specs.Counts.{IsPrefixLen};
 
 use crate::payload;
-use crate::payload::put_u16;
 use crate::words::Line;
 use calls::Side;
+use numbers::put;
+use udp_framing::{MAGIC, StreamType};
 
 // The stream of a channel's rows.
-fn rows_stream(side: Side) -> u8 {
+fn rows_stream(side: Side) -> StreamType {
     match side {
-        Side::A => 2,
-        Side::B => 4,
+        Side::A => StreamType::Waterfall,
+        Side::B => StreamType::WaterfallVfoB,
     }
 }
 
-// Puts a header at the front. The timestamp's bytes stay as they are.
-pub(crate) fn put_header(d: &mut [u8], stream: u8, sequence: u32) {
-    put_u16(d, 0, 21075);
-    put_u16(d, 2, 256 + (stream as u32));
-    put_u16(d, 4, sequence / 65536);
-    put_u16(d, 6, sequence);
+// Puts a header of version 1 at the front. The timestamp's bytes stay as they are.
+pub(crate) fn put_header(d: &mut [u8], stream: StreamType, sequence: u32) {
+    put(d, 0, &MAGIC.to_be_bytes());
+    put(d, 2, &[1, u8::from(stream)]);
+    put(d, 4, &sequence.to_be_bytes());
 }
 
 // Puts a line's payload at the front. A table of the three would hand out a function, which is refused.

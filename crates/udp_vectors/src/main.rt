@@ -15,6 +15,7 @@ use crate::report::Progress;
 use crate::session::Session;
 use crate::words::{Line, word, words_of};
 use calls::Side;
+use udp_framing::StreamType;
 
 // A datagram of the channel's rows.
 fn send_rows(line: Line<'_>, s: &mut Session) {
@@ -24,7 +25,7 @@ fn send_rows(line: Line<'_>, s: &mut Session) {
 }
 
 // Headers alone, of two streams, which are counted where their streams are, and complete no row, and the counts after them.
-fn send_headers(s: &mut Session, audio: u8, rows: u8, words: &[u32]) {
+fn send_headers(s: &mut Session, audio: StreamType, rows: StreamType, words: &[u32]) {
     for stream in [audio, rows] {
         let mut bytes = [0u8; 16];
         datagram::put_header(&mut bytes, stream, word(words, 0));
@@ -42,8 +43,8 @@ fn act(line: Line<'_>, s: &mut Session) {
         b'D' => s.set(words),
         b'C' | b'L' | b'B' => send_rows(line, s),
         b'Q' => {
-            send_headers(s, 1, 2, words);
-            send_headers(s, 3, 4, words);
+            send_headers(s, StreamType::Audio, StreamType::Waterfall, words);
+            send_headers(s, StreamType::AudioVfoB, StreamType::WaterfallVfoB, words);
         }
         _ => {
             let found = look::look(line, s);

@@ -5,8 +5,8 @@ ghost use Rattle.io.specs.Counts.{IsPrefixLen};
 use crate::words::word;
 use numbers::put;
 
-// The low 16 bits, big-endian, as the numbers of a header are.
-pub(crate) fn put_u16(p: &mut [u8], at: usize, x: u32) {
+// The low 16 bits, big-endian, as far as there is room.
+fn put_u16(p: &mut [u8], at: usize, x: u32) {
     let low = (x % 65536) as u16;
     put(p, at, &low.to_be_bytes());
 }

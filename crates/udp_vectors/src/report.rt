@@ -7,6 +7,8 @@ pub struct Progress {
     rt: HostRuntime,
     // of the input
     line: u64,
+    // sessions that were begun. (No `Tally`, which would count a session with its verdict, at its end: a difference before the first
+    // name would be lost.)
     sessions: u64,
     // sessions that are not as expected
     wrong: u64,

@@ -62,8 +62,8 @@ fn settings_of(words: &[u32]) -> Settings {
 
 // Before a setup: no bins, so that question 1 refuses every call.
 fn no_receiver() -> Receiver {
-    let estimates = estimates_of(&[]);
-    Receiver::new(sizes_of(&[]), estimates, estimates)
+    let zeros = Estimates::default();
+    Receiver::new(sizes_of(&[]), zeros, zeros)
 }
 
 fn answer_word(answer: Result<Answer, Refusal>) -> u32 {
@@ -72,13 +72,7 @@ fn answer_word(answer: Result<Answer, Refusal>) -> u32 {
         Ok(Answer::Accepted) => ACCEPTED,
         Ok(Answer::NoRow) => NO_ROW,
         Ok(Answer::Row(n)) => ROW + ((n % 65536) as u32),
-        Ok(
-            Answer::Played {
-                taken: _,
-                dropped: _,
-                short: _,
-            },
-        ) => PLAYED,
+        Ok(Answer::Played(_)) => PLAYED,
     }
 }
 
@@ -113,7 +107,7 @@ impl Session {
 
     // A setup with these estimates on one channel, and zeros on the other.
     fn set_up(&mut self, z: Sizes, e: Estimates) -> Result<Receiver, Refusal> {
-        let zeros = estimates_of(&[]);
+        let zeros = Estimates::default();
         let (a, b) = match self.side {
             Side::A => (e, zeros),
             Side::B => (zeros, e),
@@ -124,7 +118,7 @@ impl Session {
     // Question 5 refuses estimates that are not finite. A state that holds them can still be handed in, and is made of a
     // setup with zeros: nothing but the estimates is changed.
     fn with_estimates(&mut self, z: Sizes, e: Estimates) -> Receiver {
-        match self.set_up(z, estimates_of(&[])) {
+        match self.set_up(z, Estimates::default()) {
             Err(_) => no_receiver(),
             Ok(r) => with_channel(r, self.side, Channel::new(e)),
         }

@@ -22,13 +22,8 @@ fn ends_a_word(b: &u8) -> bool {
 
 // The number of the digits, of which the last eight count.
 fn number(digits: &[u8]) -> u32 {
-    let mut value: u32 = 0;
-    for b in digits {
-        if let Some(d) = digit(*b) {
-            value = (value << 4) | d;
-        }
-    }
-    value
+    let values = digits.iter().filter_map(|b| digit(*b));
+    values.fold(0u32, |number, value| (number << 4) | value)
 }
 
 // Puts the words behind a line's letter into `words`. The answer is how many they are.

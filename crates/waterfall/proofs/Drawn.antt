@@ -4,22 +4,13 @@ use mathlib.Core.List.{List, [], ◌∷◌, ◌++◌, map, append-nil}
 use Prim.Native.Nat.{ℕ, zero, suc, ◌+◌, ◌<◌}
 use native.Mathlib.Omega.{arith}
 use native.Mathlib.Nat.{zero-add}
-use lib.ListN.{length, take, drop, get_or, set, length-map, drop_of_length-le}
+use lib.ListN.{length, take, drop, set, length-map, drop_of_length-le}
 use native.Mathlib.Numerals.{add-one}
 use lib.Seq.{take-suc-set, take_all, drop_at, length-take-le}
+use Rattle.std.proofs.lemmas.List.{map-append}
 use Rattle.model.specs.Bytes.{part, placed}
 use Rattle.model.specs.Picture.{count_from}
 use Rattle.model.proofs.ListLaws.{count_from_length}
-
--- an element in the list does not turn on the default
-pub get_d_inside {ℓ} : {A : Type ℓ} (xs : List A) (i : ℕ) (d e : A) → i < length xs → get_or xs i d ≡ get_or xs i e
-get_d_inside [] i d e h = absurd (omega arith)
-get_d_inside (x ∷ xs) zero d e h = refl
-get_d_inside (x ∷ xs) (suc i) d e h = get_d_inside xs i d e (omega arith)
-
-map_append : (f : ℕ → ℕ) (xs ys : List ℕ) → map f (xs ++ ys) ≡ map f xs ++ map f ys
-map_append f [] ys = refl
-map_append f (x ∷ xs) ys = ap (λ (rest : List ℕ). f x ∷ rest) (map_append f xs ys)
 
 count_from_snoc : (i n : ℕ) → count_from i (suc n) ≡ count_from i n ++ ((i + n) ∷ [])
 unfolding count_from
@@ -38,7 +29,7 @@ drawn_length f n = length-map (count_from 0 n) f ∙ count_from_length 0 n
 drawn_snoc : (f : ℕ → ℕ) (n : ℕ) → drawn f (suc n) ≡ drawn f n ++ (f n ∷ [])
 drawn_snoc f n =
     let same : 0 + n ≡ n = omega arith in
-    rw (count_from_snoc 0 n, map_append f (count_from 0 n) ((0 + n) ∷ []), same)
+    rw (count_from_snoc 0 n, map-append f (count_from 0 n) ((0 + n) ∷ []), same)
 
 -- by two rules that agree on the first n places
 pub drawn_same : (f g : ℕ → ℕ) (n : ℕ) → ((x : ℕ) → x < n → f x ≡ g x) → drawn f n ≡ drawn g n

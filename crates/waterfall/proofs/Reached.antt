@@ -1,8 +1,8 @@
 -- How far x columns of `width` reach into the bins: x × bins = bin × width + rest, with a rest below width. So the bin of column x is the quotient, which
 -- goes on by adding the quotient and the rest of one column. Assumes nothing.
-use mathlib.Core.Path.{◌≡◌, sym, ap, ◌∙◌, subst}
+use mathlib.Core.Path.{◌≡◌, sym, ap, ◌∙◌}
 use Prim.Native.Nat.{ℕ, ◌+◌, ◌*◌, ◌/◌, ◌%◌, ◌≤◌, ◌<◌}
-use native.Mathlib.Nat.{suc-mul, mul_comm, mul-lt-mul_of_pos_right, lt_of_mul-lt-mul_right, lt_of_le_of_lt, le-add_right, div-add-mod', zero-mul}
+use native.Mathlib.Nat.{suc-mul, div-add-mod', zero-mul}
 use native.Mathlib.Numerals.{add-one}
 use native.Mathlib.Omega.{arith}
 use lib.Arith.{digits_div}
@@ -17,11 +17,6 @@ none_reached width bins h = record { sum = rw (zero-mul width, zero-mul bins); p
 
 pub reached_bin : (width bins x bin rest : ℕ) → Reached width bins x bin rest → x * bins / width ≡ bin
 reached_bin width bins x bin rest r = ap (λ (n : ℕ). n / width) (sym r.sum) ∙ digits_div bin r.part
-
-pub reached_inside : (width bins x bin rest : ℕ) → Reached width bins x bin rest → 1 ≤ bins → x < width → bin < bins
-reached_inside width bins x bin rest r some h =
-    lt_of_mul-lt-mul_right width
-    (lt_of_le_of_lt (le-add_right (bin * width) rest) (subst (λ (n : ℕ). n < bins * width) (sym r.sum) (subst (λ (n : ℕ). x * bins < n) (mul_comm width bins) (mul-lt-mul_of_pos_right h some))))
 
 -- one column more
 pub reached_more : (width bins x bin rest by-bin by-rest bin' rest' : ℕ) → Reached width bins x bin rest → by-bin * width + by-rest ≡ bins

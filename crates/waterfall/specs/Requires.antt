@@ -1,5 +1,5 @@
 -- What the functions take. Assumes nothing.
-use Rattle.std.specs.Prelude.{◌≡◌, ℕ, ◌+◌, ◌*◌, ◌≤◌, ◌<◌}
+use Rattle.std.specs.Prelude.{◌≡◌, ℕ, ◌*◌, ◌≤◌, ◌<◌}
 
 -- two reaches of columns into the bins of a row
 pub record Further (bin rest by-bin by-rest width : ℕ) : Type 0 where
@@ -26,12 +26,3 @@ pub record Drawable (width height picture bins : ℕ) : Type 0 where
   pub whole : picture ≡ width * height
   pub some_bins : 1 ≤ bins
   pub few_bins : bins ≤ 65535
-
--- a window of a row, and a picture at least as long as its top row
-pub record Window (width start visible bins picture : ℕ) : Type 0 where
-  pub some_columns : 1 ≤ width
-  pub wide : width ≤ 4096
-  pub some_bins : 1 ≤ visible
-  pub in_row : start + visible ≤ bins
-  pub few_bins : bins ≤ 65535
-  pub fits : width ≤ picture

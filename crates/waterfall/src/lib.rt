@@ -3,10 +3,11 @@
 
 ghost use Rattle.std.specs.Prelude.{◌≡◌, ◌+◌, ◌*◌, ◌<◌, map, length};
 ghost use Rattle.model.specs.Bytes.{placed};
+ghost use Rattle.model.specs.Floats.{◌-f◌, maxf, f1};
 ghost use Rattle.model.specs.Picture.{count_from, picture_after};
 ghost use Rattle.spectrum_utils.specs.Levels.{color_table};
-ghost use Rattle.waterfall.specs.Requires.{Drawable, Further, Columns, Window};
-ghost use Rattle.waterfall.specs.Shown.{bin_color, column_color, shown};
+ghost use Rattle.waterfall.specs.Requires.{Drawable, Further, Columns};
+ghost use Rattle.waterfall.specs.Shown.{bin_color, column_color};
 
 // How far the columns so far reach into the bins that show: so many bins, and a rest of so many parts of one, of which
 // a bin has as many as the picture has columns.
@@ -49,6 +50,18 @@ struct Levels {
 }
 
 impl Levels {
+    // Those of a range of at least 1 below `top`.
+    fn below(top: f32, range: f32) -> Self
+        ensures { (result.bottom ≡ top -f maxf range f1) × (result.range ≡ maxf range f1) }
+    {
+        let least = spectrum_utils::least_range(range);
+        Levels {
+            bottom: top - least,
+            range: least,
+            colors: spectrum_utils::color_table(),
+        }
+    }
+
     // The colour of a bin.
     fn color_at(&self, bins: &[f32], bin: usize) -> u32
         requires { bin < length bins.now }
@@ -94,29 +107,6 @@ fn draw_columns(buffer: &mut [u32], width: usize, bins: &[f32], levels: &Levels)
     }
 }
 
-// Draws the top row from the window of `visible` bins from `start` on.
-fn draw_top(
-    buffer: &mut [u32],
-    width: usize,
-    row: &[f32],
-    start: usize,
-    visible: usize,
-    top: f32,
-    range: f32,
-)
-    requires { Window width start visible (length row.now) (length buffer.old) }
-    ensures { buffer.new ≡ placed 0 (map (shown width start visible top range row.now) (count_from 0 width)) buffer.old }
-{
-    let least = spectrum_utils::least_range(range);
-    let levels = Levels {
-        bottom: top - least,
-        range: least,
-        colors: spectrum_utils::color_table(),
-    };
-    let end = start + visible;
-    draw_columns(buffer, width, &row[start..end], &levels);
-}
-
 // Draws a new row at the top of the picture: the rows that are there move down by one.
 pub fn draw_row_db(
     buffer: &mut [u32],
@@ -132,7 +122,6 @@ pub fn draw_row_db(
 {
     areas::move_up(buffer, 0, wf_width, (wf_height - 1) * wf_width);
     let window = spectrum_utils::zoom_window(row_db.len(), zoom);
-    let start = window.start;
-    let visible = window.end - start;
-    draw_top(buffer, wf_width, row_db, start, visible, top_db, range_db);
+    let levels = Levels::below(top_db, range_db);
+    draw_columns(buffer, wf_width, &row_db[window], &levels);
 }

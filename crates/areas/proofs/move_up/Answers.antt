@@ -1,17 +1,17 @@
-use mathlib.Core.Path.{◌≡◌, refl, ◌∙◌}
+use mathlib.Core.Path.{◌≡◌, refl, sym, ◌∙◌}
 use Prim.Native.Nat.{◌+◌, ◌-◌}
 use native.Mathlib.Nat.{add-zero}
 use native.Mathlib.Omega.{arith}
 use borrow.Author.Rules.{rules}
-use mathlib.Core.List.{[]}
+use Rattle.model.proofs.PlacedLaws.{none_placed}
 use Rattle.areas.specs.Parts.{moved}
-use Rattle.areas.proofs.Placed.{some_of, placed_none, move_up_further}
+use Rattle.areas.proofs.Placed.{some_of, move_up_further}
 use Rattle.areas.proofs.move_up.Goals as goal
 
 pub loop-left-init : goal.loop-left-init
 loop-left-init g c = let q = c.args in
     let none : q.n - q.n ≡ 0 = omega arith in
-    (omega arith, rw none (placed_none (q.to + q.n) [] q.a.now refl), refl)
+    (omega arith, rw none (sym (none_placed (q.to + q.n) q.a.now)), refl)
 
 pub loop-left-preserved : goal.loop-left-preserved
 loop-left-preserved g c = let q = c.args in

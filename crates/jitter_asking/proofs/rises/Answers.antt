@@ -1,15 +1,18 @@
-use native.Mathlib.Omega.{arith}
-use Prim.Native.Nat.{◌-◌}
-use lib.ListN.{length}
-use Rattle.jitter_asking.proofs.Asked.{rising_last, rises_as_before, falls_here}
+use Rattle.std.proofs.Common.{rules, ◌∙◌, le-ltb, lt-ltb}
+use Rattle.jitter_asking.proofs.Asked.{pairs_all, pair_taken}
 use Rattle.jitter_asking.proofs.rises.Goals as goal
 
-pub loop-i-init : goal.loop-i-init
-loop-i-init c = rising_last c.args.us.now (length c.args.us.now)
+pub loop-u-init : goal.loop-u-init
+loop-u-init c = (search rules, pairs_all _ _ (search rules))
 
-pub loop-i-preserved-then-us-i : goal.loop-i-preserved-then-us-i
-loop-i-preserved-then-us-i c = falls_here c.args.us.now (length c.args.us.now) (c.loop-i.i - 1) (omega arith) (omega arith) c.if-us-i.true
+pub loop-u-preserved-then-next-u : goal.loop-u-preserved-then-next-u
+loop-u-preserved-then-next-u c =
+    let t = c.in-Some.ensures.steps in
+    let size = c.loop-u.invariant.0 in
+    (t.0 ∙ size, pair_taken _ _ _ _ _ _ c.loop-u.invariant.1 (rw size at t.1.0) (rw size at t.1.1) t.1.2 (rw (le-ltb _ _ c.if-next-u.true)))
 
-pub loop-i-preserved : goal.loop-i-preserved
-loop-i-preserved c =
-    rises_as_before c.args.us.now (length c.args.us.now) (c.loop-i.i - 1) c.loop-i.rising (omega arith) (omega arith) c.if-us-i.false c.loop-i.invariant
+pub loop-u-preserved : goal.loop-u-preserved
+loop-u-preserved c =
+    let t = c.in-Some.ensures.steps in
+    let size = c.loop-u.invariant.0 in
+    (t.0 ∙ size, pair_taken _ _ _ _ _ _ c.loop-u.invariant.1 (rw size at t.1.0) (rw size at t.1.1) t.1.2 (rw (lt-ltb _ _ c.if-next-u.false)))

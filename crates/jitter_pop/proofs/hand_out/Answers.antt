@@ -5,27 +5,16 @@ use lib.ListN.{drop}
 use Rattle.model.specs.Bytes.{part, placed}
 use native.Mathlib.Omega.{arith}
 use Prim.Native.Nat.{◌+◌}
-use Rattle.model.proofs.SizeLaws.{allowed}
 use lib.Ieee.{of_bits}
 use Rattle.sizes.specs.declared.Offsets.{Offsets}
 use Rattle.areas.proofs.PutBack.{front_put}
-use Rattle.jitter_buffer.proofs.Places.{queue_low}
 use Rattle.jitter_pop.proofs.hand_out.Goals as goal
-
-pub overflow_add-from : goal.overflow_add-from
-overflow_add-from c = omega (arith, ap (λ (o : Offsets). o.queue) c.section_offsets-offsets.ensures, queue_low _ c.requires.allowed, allowed _ c.requires.allowed, c.requires)
-
-pub overflow_add-after : goal.overflow_add-after
-overflow_add-after c = omega (arith, ap (λ (o : Offsets). o.queue) c.section_offsets-offsets.ensures, c.min-taken.ensures, queue_low _ c.requires.allowed, allowed _ c.requires.allowed, c.requires)
-
-pub move_down-requires : goal.move_down-requires
-move_down-requires c = omega (arith, ap (λ (o : Offsets). o.queue) c.section_offsets-offsets.ensures, c.min-taken.ensures, c.requires)
 
 pub returns : goal.returns
 unfolding of_bits
-returns c = let q = ap (λ (o : Offsets). o.queue) c.section_offsets-offsets.ensures in
+returns c = let q = ap (λ (o : Offsets). o.queue) c.section_offsets-queue.ensures in
     let taken = c.min-taken.result in
-    let from = c.section_offsets-offsets.result.queue + c.args.dropped in
+    let from = c.section_offsets-queue.result.queue + c.args.dropped in
     let front : c.copy_from_slice.new.self ++ drop taken c.args.out.now ≡ placed 0 (part from taken c.args.fs.now) c.args.out.now =
     front_put taken from c.args.out.now c.args.fs.now c.copy_from_slice.new.self (omega (arith, q, c.min-taken.ensures, c.requires)) c.copy_from_slice.ensures.after
     in

@@ -4,22 +4,21 @@ use mathlib.Core.Path.{refl}
 use native.Mathlib.Omega.{arith}
 use Rattle.jitter_buffer.specs.View.{next_of}
 use Rattle.model.proofs.HeldKept.{NextFits}
-use Rattle.jitter_buffer.proofs.HeldKept.{WordsFit}
-use Rattle.jitter_buffer.proofs.HeldKept.{ready_fill}
+use Rattle.jitter_buffer.proofs.HeldKept.{WordsFit, ready_fill}
 use Rattle.jitter_pop.proofs.Plays.{pop_played, pop_silent}
 use Rattle.jitter_pop.proofs.pop_samples.Goals as goal
 
 pub pop_silence-requires : goal.pop_silence-requires
 pop_silence-requires c = let g = c.args in
     let p = c.requires.0 in
-    let words : WordsFit g.us.now = λ i. (c.slice_known-2-1.given i).fits in
+    let words : WordsFit g.us.now = λ i. (c.type_inv.us i).fits in
     let next : NextFits (next_of g.j.next_sequence) = rw c.in-None.is tt in
     omega (arith, (ready_fill g.z g.j g.fs.now g.us.now p next words).counts.filled, c.requires.1)
 
 pub pop_filled-requires : goal.pop_filled-requires
 pop_filled-requires c = let g = c.args in
     let p = c.requires.0 in
-    let words : WordsFit g.us.now = λ i. (c.slice_known-2-1.given i).fits in
+    let words : WordsFit g.us.now = λ i. search rules in
     let next : NextFits (next_of g.j.next_sequence) = rw c.in-Some.is (search rules) in
     record { fill = ready_fill g.z g.j g.fs.now g.us.now p next words; few = c.requires.1 }
 

@@ -6,4 +6,4 @@ use Rattle.playback_files.proofs.by_window.Goals as goal
 pub returns : goal.returns
 returns c = let g = c.args in
     let went = c.went_by.ensures in
-    (went.0, steps_lead_on g.form g.window.now g.last g.p c.in_ok-t.t (moment g.p.playback g.fs.now g.us.now g.samples.now) c.went_by.result _ _ _ (c.in_ok-t.ensures.0 g.p.base) went.1, went_begun g.p c.in_ok-t.t c.went_by.result went.1)
+    (went.0, steps_lead_on g.form g.window.bytes.now g.window.last g.p c.in_ok-t.t (moment g.p.playback g.fs.now g.us.now g.samples.now) c.went_by.result _ _ _ (c.in_ok-t.ensures.0 g.p.base) went.1, went_begun g.p c.in_ok-t.t c.went_by.result went.1)

@@ -7,7 +7,7 @@ use Rattle.playback_files.specs.Windows.{StepsOn}
 use Rattle.playback_files.proofs.write_through.Given as goal
 
 abbrev pub invariant-loop-form : goal.invariant-loop-form
-invariant-loop-form l = ((base : ℕ) → StepsOn l.form l.window l.last base (moment l.initial.p l.initial.fs l.initial.us l.initial.samples) base (moment l.p l.fs l.us l.samples)) × (4 * l.p.place ≤ max (4 * l.initial.p.place) (length l.window))
+invariant-loop-form l = ((base : ℕ) → StepsOn l.form l.window.bytes.now l.window.last base (moment l.initial.p l.initial.fs l.initial.us l.initial.samples) base (moment l.p l.fs l.us l.samples)) × (4 * l.p.place ≤ max (4 * l.initial.p.place) (length l.window.bytes.now))
 
 abbrev pub decreases-loop-form : goal.decreases-loop-form
-decreases-loop-form l = steps_left l.window l.p l.fs l.samples
+decreases-loop-form l = steps_left l.window.bytes.now l.p l.fs l.samples

@@ -5,7 +5,7 @@ use Rattle.playback_opening.proofs.begin.Goals as goal
 
 pub returns-in-Err : goal.returns-in-Err
 returns-in-Err c = let g = c.args in
-    bad_begun Form.Full g.tape.now g.fs.now g.us.now g.text.now c.in-Err.bad.place _ _ c.in-Err.ensures.answers c.put_bad_tape.ensures
+    bad_begun Form.Full g.tape.now g.fs.now g.us.now g.text.now c.in-Err.bad.place _ _ c.in-Err.ensures.answers c.refuse.ensures
 
 pub returns-in-Ok : goal.returns-in-Ok
 returns-in-Ok c = let g = c.args in

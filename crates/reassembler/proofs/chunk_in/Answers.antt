@@ -1,36 +1,29 @@
 -- `reassembler::chunk_in` meets its contract: the tests are those of `well_formed`, in its order. Assumes nothing.
 use mathlib.Core.Path.{◌≡◌, refl, sym, ap, ◌∙◌}
 use mathlib.Core.List.{List, map}
-use Prim.Native.Nat.{ℕ, ◌-◌, ◌/◌, ◌%◌, ◌≤◌}
+use Prim.Native.Nat.{ℕ, ◌/◌, ◌%◌, ◌≤◌}
 use native.Mathlib.Omega.{arith}
-use lib.ListN.{length, take, drop, length-drop, length-map}
-use lib.Seq.{take_all}
+use lib.ListN.{length, drop, length-map}
 use borrow.Author.Tests.{eqb-true, eqb-false}
 use Rattle.std.specs.Simd.{first_chunks}
+use Rattle.std.proofs.lemmas.List.{take_rest}
 use Rattle.model.specs.Row.{floats_of, chunk_fields, chunk_total}
 use Rattle.reassembler.specs.Rows.{value_of}
 use Rattle.reassembler.proofs.FloatBytes.{floats_of_fours}
-use Rattle.reassembler.proofs.WellFormed.{too_short_law, no_bins, part_of_a_value, outside_law, inside_law}
+use Rattle.reassembler.proofs.WellFormed.{no_bins, part_of_a_value, outside_law, inside_law}
 use Rattle.reassembler.proofs.chunk_in.Goals as goal
 use Rattle.reassembler.proofs.chunk_in.Goals.{then-total_bins-eq0-via-then-total_bins-eq0, then-total_bins-eq0-via-else-total_bins-eq0+then-not-is_empty, then-total_bins-eq0-via-else-total_bins-eq0+else-not-is_empty+then-total_bins-first}
 
--- the bytes behind the header, as a part of the slice
-rest_is : (payload : List ℕ) → take (length payload - 6) (drop 6 payload) ≡ drop 6 payload
-rest_is payload = take_all (length payload - 6) (drop 6 payload) (simp length-drop (omega arith))
-
 values_are : (payload bytes : List ℕ) (values : List (List ℕ)) → bytes ≡ drop 6 payload → values ≡ first_chunks 4 (length bytes / 4) bytes → floats_of (drop 6 payload) ≡ map value_of values
 values_are payload bytes values is front = rw (front, is) (floats_of_fours (length (drop 6 payload) / 4) (drop 6 payload) refl)
-
-pub returns-then-payload-lt6 : goal.returns-then-payload-lt6
-returns-then-payload-lt6 c = too_short_law c.args.payload.now c.if-payload-lt6.true
 
 pub returns-then-total_bins-eq0 : goal.returns-then-total_bins-eq0
 returns-then-total_bins-eq0 c = let payload = c.args.payload.now in
     let total = c.read_from-total_bins in
     let first = c.read_from-first in
-    let values = values_are payload _ c.as_chunks.result.0.now (rest_is payload) c.as_chunks.ensures.front in
+    let values = values_are payload _ c.as_chunks.result.0.now (take_rest payload 6) c.as_chunks.ensures.front in
     let n = ap length values ∙ length-map c.as_chunks.result.0.now value_of in
-    let part : length c.as_chunks.result.1.now ≡ length (drop 6 payload) % 4 = c.as_chunks.ensures.back_len ∙ ap (λ bytes. length bytes % 4) (rest_is payload) in
+    let part : length c.as_chunks.result.1.now ≡ length (drop 6 payload) % 4 = c.as_chunks.ensures.back_len ∙ ap (λ bytes. length bytes % 4) (take_rest payload 6) in
     elim c.then-total_bins-eq0.branch [
       | then-total_bins-eq0-via-then-total_bins-eq0 w ↦ no_bins payload c.if-payload-lt6.false total.result first.result total.ensures first.ensures w.if-total_bins-eq0.true
       | then-total_bins-eq0-via-else-total_bins-eq0+then-not-is_empty w ↦
@@ -46,9 +39,9 @@ unfolding chunk_fields chunk_total
 returns c = let payload = c.args.payload.now in
     let total = c.read_from-total_bins in
     let first = c.read_from-first in
-    let values = values_are payload _ c.as_chunks.result.0.now (rest_is payload) c.as_chunks.ensures.front in
+    let values = values_are payload _ c.as_chunks.result.0.now (take_rest payload 6) c.as_chunks.ensures.front in
     let n = ap length values ∙ length-map c.as_chunks.result.0.now value_of in
-    let part : length c.as_chunks.result.1.now ≡ length (drop 6 payload) % 4 = c.as_chunks.ensures.back_len ∙ ap (λ bytes. length bytes % 4) (rest_is payload) in
+    let part : length c.as_chunks.result.1.now ≡ length (drop 6 payload) % 4 = c.as_chunks.ensures.back_len ∙ ap (λ bytes. length bytes % 4) (take_rest payload 6) in
     let some_bins : 1 ≤ total.result = omega (arith, c.if-total_bins-eq0.false) in
     record {
       formed =

@@ -1,6 +1,7 @@
 -- `udp_framing_exports::udp_framing_parse_time_sync_request` meets its contract. Assumes nothing.
 use mathlib.Core.Path.{ap, ◌∙◌}
-use Rattle.udp_framing_exports.specs.Handing.{request_numbers, request_of}
+use Rattle.udp_framing_exports.specs.Handing.{request_numbers}
+use Rattle.udp_framing.specs.Views.{request_of}
 use Rattle.udp_framing_exports.proofs.HandedOver.{viewed, viewed_ok, handed_as}
 use Rattle.udp_framing_exports.proofs.udp_framing_parse_time_sync_request.Goals as goal
 

@@ -1,6 +1,7 @@
 -- `udp_framing_exports::udp_framing_parse_time_sync_response` meets its contract. Assumes nothing.
 use mathlib.Core.Path.{ap, ◌∙◌}
-use Rattle.udp_framing_exports.specs.Handing.{response_numbers, response_of}
+use Rattle.udp_framing_exports.specs.Handing.{response_numbers}
+use Rattle.udp_framing.specs.Views.{response_of}
 use Rattle.udp_framing_exports.proofs.HandedOver.{viewed, viewed_ok, handed_as}
 use Rattle.udp_framing_exports.proofs.udp_framing_parse_time_sync_response.Goals as goal
 

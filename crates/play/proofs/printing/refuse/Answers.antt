@@ -1,5 +1,5 @@
 -- `play::printing::refuse` meets its contract. Assumes nothing.
-use Rattle.playback.proofs.Replayed.{put_inside}
+use Rattle.playback_parts.proofs.Texts.{put_inside}
 use Rattle.play.proofs.printing.refuse.Goals as goal
 
 pub refused-requires : goal.refused-requires

@@ -1,5 +1,5 @@
 -- `play::printing::replay` meets its contract. Assumes nothing.
-use Rattle.playback.proofs.Replayed.{put_inside}
+use Rattle.playback_parts.proofs.Texts.{put_inside}
 use Rattle.play.proofs.printing.replay.Goals as goal
 
 pub refused-requires : goal.refused-requires

@@ -11,7 +11,7 @@ pub returns-in-Datagram : goal.returns-in-Datagram
 unfolding side_of
 returns-in-Datagram c = let count : c.in-Datagram.at + c.in-Datagram.len - c.in-Datagram.at ≡ c.in-Datagram.len = omega arith in
     let stream = rw count at c.stream_in-stream.ensures in
-    rw c.in-Datagram.is (record {
+    rw (c.in-Datagram.is, c.of_clock-plain.ensures) (record {
       side = c.stream_facts-known.ensures.side ∙ ap stream_side stream;
       next_place = refl;
       samples = refl;

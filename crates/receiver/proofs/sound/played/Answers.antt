@@ -1,12 +1,11 @@
 -- `receiver::sound::played` meets its contract. Assumes nothing.
 use mathlib.Core.Path.{refl}
-use native.Mathlib.Omega.{arith}
 use lib.ListN.{length}
 use Rattle.calls.specs.Views.{model_side}
 use Rattle.model.specs.Receiver.{play}
 use Rattle.receiver_state.proofs.CallLaws.{asked_refused, sides_ready}
 use Rattle.receiver_state.proofs.SideCalls.{channel_set_calls}
-use Rattle.receiver_state.proofs.Lending.{floats_inside, words_inside, channel_ready}
+use Rattle.receiver_state.proofs.Lending.{channel_ready}
 use Rattle.receiver.proofs.PlayCalls.{play_refused, play_called}
 use Rattle.receiver.proofs.sound.played.Goals as goal
 
@@ -20,30 +19,6 @@ returns-in_err-asked c = let g = c.args in
 pub returns-then-out-gt65535 : goal.returns-then-out-gt65535
 returns-then-out-gt65535 c = let g = c.args in
     play_refused g.r g.fs.now g.us.now (c.in_ok-asked.ensures.ready refl) (λ i. (c.slice_known-2-1.given i).fits) g.side g.out.now c.if-out-gt65535.true
-
-pub offset_bounds-fs-begin : goal.offset_bounds-fs-begin
-offset_bounds-fs-begin c = let g = c.args in
-    omega (arith, c.starts-begin.ensures.0, floats_inside g.r g.fs.now g.us.now (sides_ready g.r g.fs.now g.us.now (c.in_ok-asked.ensures.ready refl)) g.side)
-
-pub slice_bounds-play-count : goal.slice_bounds-play-count
-slice_bounds-play-count c = let g = c.args in
-    omega (arith, c.starts-begin.ensures.0, floats_inside g.r g.fs.now g.us.now (sides_ready g.r g.fs.now g.us.now (c.in_ok-asked.ensures.ready refl)) g.side)
-
-pub slice_bounds-play-start : goal.slice_bounds-play-start
-slice_bounds-play-start c = let g = c.args in
-    omega (arith, c.starts-begin.ensures.0, floats_inside g.r g.fs.now g.us.now (sides_ready g.r g.fs.now g.us.now (c.in_ok-asked.ensures.ready refl)) g.side)
-
-pub offset_bounds-us-begin : goal.offset_bounds-us-begin
-offset_bounds-us-begin c = let g = c.args in
-    omega (arith, c.starts-begin.ensures.1, words_inside g.r g.fs.now g.us.now (sides_ready g.r g.fs.now g.us.now (c.in_ok-asked.ensures.ready refl)) g.side)
-
-pub slice_bounds-play-count-2 : goal.slice_bounds-play-count-2
-slice_bounds-play-count-2 c = let g = c.args in
-    omega (arith, c.starts-begin.ensures.1, words_inside g.r g.fs.now g.us.now (sides_ready g.r g.fs.now g.us.now (c.in_ok-asked.ensures.ready refl)) g.side)
-
-pub slice_bounds-play-start-2 : goal.slice_bounds-play-start-2
-slice_bounds-play-start-2 c = let g = c.args in
-    omega (arith, c.starts-begin.ensures.1, words_inside g.r g.fs.now g.us.now (sides_ready g.r g.fs.now g.us.now (c.in_ok-asked.ensures.ready refl)) g.side)
 
 pub play-played-requires : goal.play-played-requires
 play-played-requires c = let g = c.args in

@@ -1,15 +1,8 @@
 -- `receiver_words::state::receiver_at` meets its contract: each part is its words. Assumes nothing.
-use native.Mathlib.Omega.{arith}
 use Rattle.receiver_words.specs.State.{receiver_at}
 use Rattle.receiver_words.proofs.ClockBack.{clock_read}
 use Rattle.numbers.proofs.Stored.{rest_is}
 use Rattle.receiver_words.proofs.state.receiver_at.Goals as goal
-
-pub bounds-w-6 : goal.bounds-w-6
-bounds-w-6 c = omega (arith, c.requires)
-
-pub bounds-w-7 : goal.bounds-w-7
-bounds-w-7 c = omega (arith, c.requires)
 
 pub returns : goal.returns
 unfolding receiver_at

@@ -1,6 +1,6 @@
 -- `replay::output::print`: the bytes of a refusal lie inside of the text. Assumes nothing.
 use Rattle.std.proofs.Common.{sym, length-take-le}
-use Rattle.playback.proofs.Replayed.{put_inside}
+use Rattle.playback_parts.proofs.Texts.{put_inside}
 use Rattle.replay.proofs.output.print.Goals as goal
 
 pub slice_bounds-write_all-end : goal.slice_bounds-write_all-end

