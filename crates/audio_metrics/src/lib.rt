@@ -8,12 +8,12 @@ ghost use Rattle.std.proofs.Math.Option.{some};
 ghost use Rattle.model.specs.Questions.{clock_bound, offset_allowed, timing_held, one_way_held, clock_held, probe_allowed, depth_allowed};
 ghost use Rattle.model.specs.Sizes.{between};
 ghost use Rattle.calls.specs.Views.{model_counts};
-ghost use Rattle.model.specs.Clock.{fresh_clock, step_toward, least_after, passes_gate, timing_after, record_probe, one_way_in_range, one_way_of, one_way_after, record_one_way, samples_ms, depth_after, record_depth, record_transmit, in_ms, one_way_ms, round_trip_ms, offset_ms, depth_ms, depth_peak_ms};
+ghost use Rattle.model.specs.Clock.{fresh_clock, step_toward, least_after, passes_gate, timing_after, record_probe, bits64, one_way_in_range, one_way_of, one_way_after, record_one_way, samples_ms, depth_after, record_depth, record_transmit, in_ms, one_way_ms, round_trip_ms, offset_ms, depth_ms, depth_peak_ms};
 ghost use Rattle.audio_metrics.specs.Requires.{StepFits, ProbeFits, Probed, OneWayFits};
 ghost use Rattle.audio_metrics.specs.Views.{timing_of, known_of, delay_of, depth_known, depth_of, reading_of, clock_of};
 
 use calls::{DepthCounts, OneWayTimes};
-use udp_framing::low_64;
+use udp_framing::words::as_signed;
 
 const SAMPLE_RATE_HZ: f32 = 48_000.0;
 
@@ -106,9 +106,16 @@ fn timing_after(timing: Option<ClockTiming>, offset: i64, rtt: u64) -> ClockTimi
 fn one_way_of(times: OneWayTimes, offset: i64) -> i64
     ensures { result ≡ one_way_of times.receive times.send offset }
 {
-    let receive = i128::from(times.receive);
-    let send = i128::from(times.send);
-    low_64(receive - send + i128::from(offset))
+    let delay = times.receive.wrapping_sub(times.send);
+    as_signed(delay.wrapping_add(as_bits(offset)))
+}
+
+// The bits of a signed number.
+#[tactic(auto, using(model::proofs::CastLaws::bits_of_signed))]
+pub fn as_bits(n: i64) -> u64
+    ensures { result ≡ bits64 n }
+{
+    n.cast_unsigned()
 }
 
 // The one-way delay after a new one: the first is taken whole, then an eighth step.

@@ -1,5 +1,5 @@
--- Offset and round trip in words of 64 bits: what sums and differences that wrap come to. Assumes nothing.
-use Prim.Native.Nat.{ℕ, zero, suc, ◌+◌, ◌-◌, ◌*◌, ◌%◌, ◌^◌, ◌≤◌, ◌<◌}
+-- Offset and round trip in words of 64 bits: what sums with a carry, differences with a borrow and differences that wrap come to. Assumes nothing.
+use Prim.Native.Nat.{ℕ, zero, suc, ◌+◌, ◌-◌, ◌*◌, ◌/◌, ◌%◌, ◌^◌, ◌≤◌, ◌<◌}
 use native.Mathlib.Omega.{arith}
 use native.Mathlib.Nat.{zero-add, add_assoc, mod-eq_of_lt, mod-add-mod, add-mod-mod, add-mul-mod_self_right}
 use mathlib.Core.Path.{◌≡◌, sym, ap, ◌∙◌}
@@ -69,6 +69,81 @@ wrapped_round_trip : (W t1 t2 t3 t4 out served r : ℕ) → (out + t1) % W ≡ t
 wrapped_round_trip W t1 t2 t3 t4 out served r e1 e2 e3 =
     let whole : r + (t1 + (served + t2)) ≡ r + served + (t1 + t2) = omega arith in
     rw (← e2, ← e1, ← e3, mod-add-mod, add_assoc, mod-add-mod, ← add_assoc r t1 ((served + t2) % W), add-mod-mod, add_assoc r t1, whole)
+
+-- ---- the half of a difference, from its words. W = 2 H, and taken · W is what the borrow and the carry below take away
+
+module _ (H : ℕ) where
+  pub half_up : (A B carry taken low : ℕ) → carry ≤ 1 → taken ≤ carry → A + taken * (2 * H) ≡ B + (carry * (2 * H) + low)
+      → (A - B) / 2 ≡ (carry + 2 - taken) % 2 * H + low / 2
+  half_up A B zero zero low h k e = omega arith
+  half_up A B zero (suc taken) low h k e = absurd (omega arith)
+  half_up A B (suc zero) zero low h k e = omega arith
+  half_up A B (suc zero) (suc zero) low h k e = omega arith
+  half_up A B (suc zero) (suc (suc taken)) low h k e = absurd (omega arith)
+  half_up A B (suc (suc carry)) taken low h k e = absurd (omega arith)
+
+  pub half_down : (A B carry taken low : ℕ) → carry < taken → taken ≤ 2 → low < 2 * H → A + taken * (2 * H) ≡ B + (carry * (2 * H) + low)
+      → ((carry + 2 - taken) % 2 * H + low / 2) + low % 2 + (B - A) / 2 ≡ 2 * H
+  half_down A B carry zero low h k l e = absurd (omega arith)
+  half_down A B zero (suc zero) low h k l e = omega arith
+  half_down A B zero (suc (suc zero)) low h k l e = omega arith
+  half_down A B (suc zero) (suc (suc zero)) low h k l e = omega arith
+  half_down A B (suc carry) (suc zero) low h k l e = absurd (omega arith)
+  half_down A B (suc (suc carry)) (suc (suc zero)) low h k l e = absurd (omega arith)
+  half_down A B carry (suc (suc (suc taken))) low h k l e = absurd (omega arith)
+
+-- ---- the low 64 bits of half a difference
+
+half_bits_up : (a b : ℕ) → b ≤ a → a < 2 ^ 65 → bits64 (quot_z (pos a -ℤ pos b) (pos 2)) ≡ (a - b) / 2
+unfolding bits64
+half_bits_up a b h k = rw (difference_up a b h) (mod-eq_of_lt (omega arith))
+
+-- the low 64 bits of −h, where s and h are 2^64 together
+bits_of_negative : (h s : ℕ) → s + h ≡ 2 ^ 64 → bits64 (neg_ℤ (pos h)) ≡ s % 2 ^ 64
+unfolding bits64
+bits_of_negative zero s e = omega arith
+bits_of_negative (suc h) s e = omega arith
+
+half_bits_down : (a b s : ℕ) → a < b → s + (b - a) / 2 ≡ 2 ^ 64 → bits64 (quot_z (pos a -ℤ pos b) (pos 2)) ≡ s % 2 ^ 64
+half_bits_down a b s h e =
+    let whole : suc (b - suc a) ≡ b - a = omega arith in
+    rw (difference_down a b h, whole) (bits_of_negative ((b - a) / 2) s e)
+
+-- half the difference of two sums, from the words of their difference
+module _ (ac al bc bl borrow low : ℕ) (ha : ac ≤ 1) (words : al + borrow * 2 ^ 64 ≡ bl + low) where
+  a : ℕ
+  a = ac * 2 ^ 64 + al
+
+  b : ℕ
+  b = bc * 2 ^ 64 + bl
+
+  whole : a + (bc + borrow) * 2 ^ 64 ≡ b + (ac * 2 ^ 64 + low)
+  unfolding a b
+  whole = omega arith
+
+  not_below : bc + borrow ≤ ac → b ≤ a
+  not_below more = omega (arith, whole)
+
+  below : low < 2 ^ 64 → ac < bc + borrow → a < b
+  below word less = omega (arith, whole)
+
+  small : al < 2 ^ 64 → a < 2 ^ 65
+  unfolding a
+  small word = omega arith
+
+  pub half_of_words_up : al < 2 ^ 64 → bc + borrow ≤ ac
+      → (ac + 2 - (bc + borrow)) % 2 * 2 ^ 63 + low / 2
+      ≡ bits64 (quot_z (pos (ac * 2 ^ 64 + al) -ℤ pos (bc * 2 ^ 64 + bl)) (pos 2))
+  unfolding a b
+  half_of_words_up word more =
+      sym (half_bits_up a b (not_below more) (small word) ∙ half_up (2 ^ 63) a b ac (bc + borrow) low ha more whole)
+
+  pub half_of_words_down : low < 2 ^ 64 → bc + borrow ≤ 2 → ac < bc + borrow
+      → ((ac + 2 - (bc + borrow)) % 2 * 2 ^ 63 + low / 2 + low % 2) % 2 ^ 64
+      ≡ bits64 (quot_z (pos (ac * 2 ^ 64 + al) -ℤ pos (bc * 2 ^ 64 + bl)) (pos 2))
+  unfolding a b
+  half_of_words_down word two less =
+      sym (half_bits_down a b _ (below word less) (half_down (2 ^ 63) a b ac (bc + borrow) low less two word whole))
 
 -- ---- laws
 

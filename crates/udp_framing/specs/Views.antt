@@ -1,5 +1,6 @@
--- What the crate's values stand for: the model's header, times and time packets, and the numbers of the refusals. Assumes nothing.
-use Rattle.std.specs.Prelude.{ℕ, Option, None, Some, Result, Ok, Err}
+-- What the crate's values stand for: the model's header, times and time packets, sums, and the numbers of the refusals. Assumes nothing.
+use Rattle.std.specs.Prelude.{ℕ, ◌+◌, ◌*◌, ◌^◌, Bool, Option, None, Some, Result, Ok, Err}
+use Rattle.std.specs.Int.{from_bool}
 use Rattle.std.proofs.Math.Option as Maybe
 use Rattle.std.proofs.Math.Option.{none, some}
 use Rattle.model.specs.Framing.{Header, TimeRequest, TimeResponse}
@@ -59,3 +60,9 @@ answer_of f (Err e) = refused (refusal_number e)
 -- the number of bytes that were written
 abbrev pub built_answer : Result ℕ Refusal → Answer ℕ
 built_answer r = answer_of (λ n. n) r
+
+-- ---- words
+
+-- the number that a low word and a carry are
+abbrev pub sum_of : ℕ × Bool → ℕ
+sum_of s = from_bool s.1 * 2 ^ 64 + s.0

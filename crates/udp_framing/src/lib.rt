@@ -3,17 +3,18 @@
 #![tactic(auto)]
 
 pub mod big_endian;
+pub mod words;
 
 ghost use Rattle.std.specs.Prelude.{◌≡◌, ◌≤◌, length};
 ghost use Rattle.model.specs.Bytes.{placed};
 ghost use Rattle.model.specs.Framing.{header_length, parse_header, valid_header, audio_start, audio_send_time, build_request, build_response, parse_request, parse_response};
-ghost use Rattle.model.specs.Clock.{low64};
 ghost use Rattle.udp_framing.specs.StreamTypes.{stream_number, Numbered};
 ghost use Rattle.udp_framing.specs.Views.{header_of, header_found, send_time_found, or_refusal, answer_of, request_of, response_of};
 ghost use Rattle.udp_framing.specs.Promises.{header_bytes, BuiltAs, TimePacketAsked, Measured};
 
 use big_endian::BigEndian;
 use calls::{ProbeTimes, Refusal};
+use words::{as_signed, half_difference};
 
 // "RS", at the front of each datagram.
 pub const MAGIC: u16 = 0x5253;
@@ -241,26 +242,18 @@ pub struct OffsetRtt {
     pub rtt: i64,
 }
 
-// The low 64 bits of a number, as a signed number.
-#[tactic(auto, using(model::proofs::CastLaws::signed_of_bits, model::proofs::CastLaws::low_bits_of_signed), unfolding(model::specs::Clock::low64))]
-pub fn low_64(n: i128) -> i64
-    ensures { result ≡ low64 n }
-{
-    ((n.cast_unsigned() % (1 << 64)) as u64).cast_signed()
-}
-
 // From a probe's four times: ((t2 - t1) + (t3 - t4)) / 2 toward zero and (t4 - t1) - (t3 - t2), the low 64 bits of each.
 pub fn clock_offset_rtt(t: ProbeTimes) -> OffsetRtt
     ensures { Measured t result }
 {
-    let t1 = i128::from(t.t1);
-    let t2 = i128::from(t.t2);
-    let t3 = i128::from(t.t3);
-    let t4 = i128::from(t.t4);
-    let offset = ((t2 - t1) + (t3 - t4)) / 2;
-    let rtt = (t4 - t1) - (t3 - t2);
+    let server = t.t2.carrying_add(t.t3, false);
+    let client = t.t1.carrying_add(t.t4, false);
+    let offset = half_difference(server, client);
+    let away = t.t4.wrapping_sub(t.t1);
+    let served = t.t3.wrapping_sub(t.t2);
+    let rtt = away.wrapping_sub(served);
     OffsetRtt {
-        offset: low_64(offset),
-        rtt: low_64(rtt),
+        offset: as_signed(offset),
+        rtt: as_signed(rtt),
     }
 }

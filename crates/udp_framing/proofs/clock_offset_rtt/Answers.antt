@@ -1,24 +1,24 @@
--- `udp_framing::clock_offset_rtt` meets its contract: in 128 bits nothing is lost. Assumes nothing.
-use Rattle.std.proofs.Common.{◌≡◌, ◌∙◌, ap, w64, rules, arith, ℤ, pos, ◌+ℤ◌, ◌-ℤ◌, SFits, to_z, of_z}
-use Rattle.std.proofs.lemmas.Int.{to_z-of_z, ints}
+-- `udp_framing::clock_offset_rtt` meets its contract: half the difference of the sums is the offset, and the differences that wrap are the round trip.
+-- Assumes nothing.
+use Rattle.std.proofs.Common.{◌≡◌, ◌+◌, pos, ◌-ℤ◌, ◌∙◌, to_z-of_z, w64, mod-lt, rules, arith}
 use lib.Signed.{quot_z}
-use mir.Syntax.{w128}
-use Rattle.model.specs.Clock.{low64, probe_offset, probe_round_trip}
+use Rattle.model.specs.Clock.{bits64}
+use Rattle.udp_framing.specs.Views.{sum_of}
+use Rattle.model.proofs.ProbeWords.{offset_of_words, round_trip_of_words}
+use Rattle.udp_framing.proofs.Wrapped.{wraps_back}
 use Rattle.udp_framing.proofs.clock_offset_rtt.Goals as goal
 
--- a number as it is read back from its 128 bits
-abbrev kept : ℤ → ℤ
-kept z = to_z w128 (of_z w128 z)
-
-half_kept : (s z : ℤ) → s ≡ z → SFits w128 z → kept (quot_z s (pos 2)) ≡ quot_z z (pos 2)
-half_kept s z e fits = rw e (omega (arith, ints))
-
 pub returns : goal.returns
-unfolding probe_offset probe_round_trip
 returns c = let t = c.args.t in
-    let sum : ℤ = kept (kept (kept c.from-t2.result -ℤ kept c.from-t1.result) +ℤ kept (kept c.from-t3.result -ℤ kept c.from-t4.result)) in
-    let is : sum ≡ (pos t.t2 -ℤ pos t.t1) +ℤ (pos t.t3 -ℤ pos t.t4) = omega (arith, ints, c.well_formed) in
+    let server : sum_of c.carrying_add-server.result ≡ t.t2 + t.t3 = omega (arith, c.carrying_add-server.ensures) in
+    let client : sum_of c.carrying_add-client.result ≡ t.t1 + t.t4 = omega (arith, c.carrying_add-client.ensures) in
+    let bits : c.half_difference-offset.result ≡ bits64 (quot_z (pos (t.t2 + t.t3) -ℤ pos (t.t1 + t.t4)) (pos 2)) =
+    rw (← server, ← client) c.half_difference-offset.ensures
+    in
     record {
-      offset = to_z-of_z w64 c.low_64.result (search rules) ∙ c.low_64.ensures ∙ ap low64 (half_kept sum _ is (omega (arith, ints, c.well_formed)));
-      rtt = to_z-of_z w64 c.low_64-2.result (search rules) ∙ c.low_64-2.ensures ∙ ap low64 (omega (arith, ints, c.well_formed));
+      offset = to_z-of_z {w = w64} {z = c.as_signed.result} (search rules) ∙ c.as_signed.ensures ∙ offset_of_words t.t1 t.t2 t.t3 t.t4 bits;
+      rtt =
+          to_z-of_z {w = w64} {z = c.as_signed-2.result} (search rules) ∙ c.as_signed-2.ensures
+          ∙ round_trip_of_words t.t1 t.t2 t.t3 t.t4 _ _ _ (mod-lt _ (omega arith)) (wraps_back t.t4 t.t1 (omega (arith, c.well_formed)) (omega (arith, c.well_formed)))
+          (wraps_back t.t3 t.t2 (omega (arith, c.well_formed)) (omega (arith, c.well_formed))) (wraps_back _ _ (mod-lt _ (omega arith)) (mod-lt _ (omega arith)));
     }
