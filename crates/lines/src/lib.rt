@@ -4,14 +4,13 @@
 ghost use Rattle.std.specs.Prelude.{List, ℕ, [], ◌<◌, ◌∷◌, map, ◌≡◌, ◌+◌, ◌*◌, ◌≤◌, length, max, nat_le};
 ghost use Rattle.model.specs.Replay.{decimal, signed_decimal, hex_bits, line, refused_line};
 ghost use Rattle.audio_metrics.specs.Views.{timing_of, delay_of};
-ghost use Rattle.calls.specs.Refusals.{refusal_number};
 ghost use Rattle.calls.specs.Views.{model_side};
 ghost use Rattle.text.proofs.FittedLaws.{Fitted};
 ghost use Rattle.text.specs.Promises.{Written};
 ghost use Rattle.lines.specs.Lines.{spaced, head, word_or_dash, clock_text, Piece, ValuesWritten};
 
 use audio_metrics::ClockTiming;
-use calls::{Refusal, Side};
+use calls::Side;
 
 // What stands in a line behind a space.
 trait Word: Copy {
@@ -136,12 +135,12 @@ pub fn put_line(out: &mut [u8], letter: u8, numbers: &[u64]) -> Option<usize>
     Some(line.at)
 }
 
-// A refusal's line.
+// The line of a refusal of any number.
 #[tactic(auto, unfolding(model::specs::Replay::refused_line))]
-pub fn put_refusal(out: &mut [u8], why: Refusal) -> Option<usize>
-    ensures { Piece 23 (refused_line (refusal_number why)) out.old out.new result }
+pub fn put_refusal(out: &mut [u8], number: u32) -> Option<usize>
+    ensures { Piece 23 (refused_line number) out.old out.new result }
 {
-    put_line(out, b'X', &[why.number() as u64])
+    put_line(out, b'X', &[number as u64])
 }
 
 // The bits of as many values as the bytes have room for, each after a space and in nine bytes; the answer is how many.

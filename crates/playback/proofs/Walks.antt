@@ -19,6 +19,7 @@ use Rattle.receiver_state.specs.declared.Answer.{Answer}
 use Rattle.receiver_state.specs.declared.Answer.TheVariants.{Row}
 use Rattle.playback_parts.specs.declared.Doing.{Doing}
 use Rattle.playback_parts.specs.declared.facts.Facts.{Facts}
+use Rattle.receiver_state.specs.View.{numbered}
 use Rattle.summary_lines.specs.Summaries.{RowHas}
 use Rattle.playback.specs.Steps.{values_held, stage, RowStands, row_length}
 
@@ -48,7 +49,7 @@ part_inside place n xs =
     rw (count, drop_min place xs) (sym (take_min n (drop place xs)))
 
 -- so many values has a row, cut to what is lent
-pub row_has : (a : Result Answer Refusal) (facts : Facts) (fs values : List Float) (count : ℕ) → count ≡ row_length a facts (length fs) → RowStands a facts fs values → RowHas a values count
+pub row_has : (a : Result Answer Refusal) (facts : Facts) (fs values : List Float) (count : ℕ) → count ≡ row_length a facts (length fs) → RowStands a facts fs values → RowHas (numbered a) values count
 row_has (Ok (Row n)) facts fs values count is stands = rw (stands n refl, length-take n (drop facts.row fs), length-drop facts.row fs) (omega arith)
 row_has _ facts fs values count is stands = tt
 

@@ -13,7 +13,7 @@ use playback_parts::facts::{Facts, facts_of};
 use playback_parts::parts::put_part;
 use playback_parts::{Doing, Form, PIECE, Playback};
 use receiver_state::report::report_of;
-use receiver_state::{Answer, Answered};
+use receiver_state::{Answer, Answered, numbered};
 use replaying::acting::act;
 use replaying::printing::{Left, begin_line};
 use summary_lines::put_summary;
@@ -49,7 +49,7 @@ fn begun_full(v: Answered, facts: Facts, fs: &[f32], text: &mut [u8]) -> Wrote
     requires { 170 ≤ length text.old }
     ensures { CallBegun Form.Full v facts fs.now text.old text.new result }
 {
-    let line = begin_line(text, facts.side, v.answer);
+    let line = begin_line(text, facts.side, numbered(v.answer));
     Wrote {
         playback: Playback {
             receiver: v.receiver,
@@ -85,7 +85,7 @@ fn begun_summary(v: Answered, facts: Facts, fs: &[f32], text: &mut [u8]) -> Wrot
             place: facts.next,
             doing: Doing::Call,
         },
-        bytes: put_summary(text, facts.side, v.answer, values),
+        bytes: put_summary(text, facts.side, numbered(v.answer), values),
     }
 }
 

@@ -46,7 +46,7 @@ pub fn set_up(
         return Err(NotBegun::NoRoom);
     }
     match receiver_setup::setup(setup.sizes, setup.a, setup.b, fs, us) {
-        Err(why) => Err(NotBegun::Refused(lines::put_refusal(text, why).unwrap())),
+        Err(why) => Err(NotBegun::Refused(lines::put_refusal(text, why.number()).unwrap())),
         Ok(receiver) => Ok(Playback {
             receiver,
             place: FIRST_CALL,

@@ -11,6 +11,7 @@ use Rattle.calls.specs.declared.Estimates.{Estimates}
 use Rattle.calls.specs.declared.Refusal.{Refusal}
 use Rattle.receiver_state.specs.declared.Receiver.{Receiver}
 use Rattle.receiver_state.specs.declared.Answered.{Answered}
+use Rattle.receiver_state.specs.View.{numbered}
 use Rattle.receiver_setup.specs.Promises.{SetupDone}
 use Rattle.receiver_words.specs.State.{receiver_at, answer_words, state_left, setup_words, setup_left}
 use Rattle.receiver_exports.specs.Exported.{words_there, Promise, Exported, SetupExported}
@@ -21,7 +22,7 @@ module _ (state answer : List ℕ) where
     too_short_law k asked told = record { acts = sym told ∙ asked; short = λ e. (refl, refl, k); left = λ e. cc }
 
     pub acted : {kept : Type 0} {r : Bool} {before : Receiver} (v : Answered) {state' answer' : List ℕ} → r ≡ words_there state answer → r ≡ true
-        → before ≡ receiver_at state → promise before v → (state' ≡ state_left v state) × (answer' ≡ sets answer 0 (answer_words v.answer))
+        → before ≡ receiver_at state → promise before v → (state' ≡ state_left v.receiver (numbered v.answer) state) × (answer' ≡ sets answer 0 (answer_words (numbered v.answer)))
         → Exported promise kept state answer state' answer' true
     acted v asked told read promised words =
         record {
@@ -35,7 +36,7 @@ module _ (state answer : List ℕ) where
     setup_too_short asked told = record { acts = sym told ∙ asked; short = λ e. (refl, refl, refl); left = λ e. cc }
 
     pub setup_acted : {r : Bool} (s : Result Receiver Refusal) {us' state' answer' : List ℕ} → r ≡ words_there state answer → r ≡ true → SetupDone z a b fs us s us'
-        → (state' ≡ setup_left s state) × (answer' ≡ sets answer 0 (setup_words s)) → SetupExported z a b fs us us' state answer state' answer' true
+        → (state' ≡ setup_left (numbered s) state) × (answer' ≡ sets answer 0 (setup_words (numbered s))) → SetupExported z a b fs us us' state answer state' answer' true
     setup_acted s asked told done words =
         record {
           acts = sym told ∙ asked;

@@ -8,7 +8,7 @@ use Rattle.calls.specs.declared.Estimates.{Estimates}
 use Rattle.calls.specs.declared.Refusal.{Refusal}
 use Rattle.receiver_state.specs.declared.Receiver.{Receiver}
 use Rattle.receiver_state.specs.declared.Answered.{Answered}
-use Rattle.receiver_state.specs.View.{answer_of}
+use Rattle.receiver_state.specs.View.{answer_of, numbered}
 use Rattle.receiver_state.specs.Promises.{Called}
 use Rattle.receiver.specs.Promises.{PlayedOut}
 use Rattle.receiver_datagrams.specs.Promises.{DatagramTaken}
@@ -39,8 +39,8 @@ Takes bytes fs us fs' us' r v = DatagramTaken r fs us bytes v fs' us'
 pub record Left (promise : Promise) (state answer state' answer' : List ℕ) : Type 0 where
   pub answered : Answered
   pub promised : promise (receiver_at state) answered
-  pub state_left_law : state' ≡ state_left answered state
-  pub answer_left : answer' ≡ sets answer 0 (answer_words answered.answer)
+  pub state_left_law : state' ≡ state_left answered.receiver (numbered answered.answer) state
+  pub answer_left : answer' ≡ sets answer 0 (answer_words (numbered answered.answer))
 
 -- a call acts exactly where its words are there; where they are not, no word changes, nor what else was lent
 pub record Exported (promise : Promise) (kept : Type 0) (state answer state' answer' : List ℕ) (r : Bool) : Type 0 where
@@ -57,8 +57,8 @@ NoneWritten = Unit {0}
 pub record SetupLeft (z : Sizes) (a b : Estimates) (fs : List Float) (us us' state answer state' answer' : List ℕ) : Type 0 where
   pub set_up_law : Result Receiver Refusal
   pub done : SetupDone z a b fs us set_up_law us'
-  pub state_left_law : state' ≡ setup_left set_up_law state
-  pub answer_left : answer' ≡ sets answer 0 (setup_words set_up_law)
+  pub state_left_law : state' ≡ setup_left (numbered set_up_law) state
+  pub answer_left : answer' ≡ sets answer 0 (setup_words (numbered set_up_law))
 
 pub record SetupExported (z : Sizes) (a b : Estimates) (fs : List Float) (us us' state answer state' answer' : List ℕ) (r : Bool) : Type 0 where
   pub acts : r ≡ words_there state answer

@@ -10,7 +10,7 @@ ghost use Rattle.receiver_exports.specs.Exported.{words_there, Calls, Plays, Tak
 
 use calls::{DepthCounts, Estimates, OneWayTimes, ProbeTimes, Settings, Side, Sizes};
 use receiver_setup::setup;
-use receiver_state::{Answered, Receiver};
+use receiver_state::{Answered, Receiver, numbered};
 use receiver_words::state::{leave, leave_setup, receiver_at};
 
 fn words_there(state: &[u64], answer: &[u64]) -> bool
@@ -29,8 +29,8 @@ fn exported<F: FnOnce(Receiver) -> Answered>(state: &mut [u64], answer: &mut [u6
     if !words_there(state, answer) {
         return false;
     }
-    let r = receiver_at(state);
-    leave(state, answer, call(r));
+    let v = call(receiver_at(state));
+    leave(state, answer, v.receiver, numbered(v.answer));
     true
 }
 
@@ -77,7 +77,7 @@ pub extern "C" fn receiver_setup(
         floor: b_floor,
         range: b_range,
     };
-    leave_setup(state, answer, setup(z, a, b, fs, us));
+    leave_setup(state, answer, numbered(setup(z, a, b, fs, us)));
     true
 }
 
@@ -95,12 +95,8 @@ pub extern "C" fn receiver_handle_media_packet(
     if !words_there(state, answer) {
         return false;
     }
-    let r = receiver_at(state);
-    leave(
-        state,
-        answer,
-        receiver_datagrams::handle_media_packet(r, fs, us, bytes),
-    );
+    let v = receiver_datagrams::handle_media_packet(receiver_at(state), fs, us, bytes);
+    leave(state, answer, v.receiver, numbered(v.answer));
     true
 }
 
@@ -118,12 +114,8 @@ pub extern "C" fn receiver_play(
     if !words_there(state, answer) {
         return false;
     }
-    let r = receiver_at(state);
-    leave(
-        state,
-        answer,
-        receiver::sound::play(r, fs, us, Side::from_number(side), out),
-    );
+    let v = receiver::sound::play(receiver_at(state), fs, us, Side::from_number(side), out);
+    leave(state, answer, v.receiver, numbered(v.answer));
     true
 }
 

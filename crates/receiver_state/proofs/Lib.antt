@@ -5,3 +5,4 @@ pub mod Lending
 pub mod RowLending
 pub mod Reading
 pub mod Closing
+pub mod AnswerNumbers

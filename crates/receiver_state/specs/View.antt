@@ -69,3 +69,13 @@ answer_of (Ok Accepted) values = Model.accepted
 answer_of (Ok (Played p)) values = Model.played (model_played p values)
 answer_of (Ok NoRow) values = Model.row none
 answer_of (Ok (Row n)) values = Model.row (some (take n values))
+
+-- a refusal by its question's number, as it is printed and handed to other languages
+abbrev pub numbered : {A : Type 0} → Result A Refusal → Result A ℕ
+numbered (Err why) = Err (refusal_number why)
+numbered (Ok a) = Ok a
+
+-- the model's answer, of a refusal of any number
+abbrev pub answer_numbered : Result Answer ℕ → List Float → Model.Answer
+answer_numbered (Err n) values = Model.refused n
+answer_numbered (Ok a) values = answer_of (Ok a) values

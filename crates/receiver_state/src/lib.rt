@@ -2,7 +2,9 @@
 // goes in by value and comes back; the two areas are lent. The crates receiver and receiver_datagrams have the calls.
 #![tactic(auto)]
 
+ghost use Rattle.std.specs.Prelude.{◌≡◌};
 ghost use Rattle.receiver_state.specs.Fresh.{FreshReceiver};
+ghost use Rattle.receiver_state.specs.View.{numbered};
 
 pub mod asking;
 pub mod counted;
@@ -65,4 +67,11 @@ pub enum Answer {
 pub struct Answered {
     pub receiver: Receiver,
     pub answer: Result<Answer, Refusal>,
+}
+
+// A refusal by its question's number, for what prints answers and what hands them to other languages: both take any number.
+pub fn numbered<T>(said: Result<T, Refusal>) -> Result<T, u32>
+    ensures { result ≡ numbered said }
+{
+    said.map_err(Refusal::number)
 }

@@ -9,14 +9,11 @@ use Rattle.audio_metrics.specs.declared.JitterDepth.{JitterDepth}
 use Rattle.audio_metrics.specs.declared.AudioMetrics.{AudioMetrics}
 use Rattle.audio_metrics.specs.Views.{clock_of}
 use Rattle.audio_metrics_words.specs.Words.{clock_in, clock_words}
-use Rattle.calls.specs.declared.Refusal.{Refusal}
-use Rattle.calls.specs.Refusals.{refusal_number}
 use Rattle.calls.specs.Views.{size_numbers, play_words}
 use Rattle.channel.specs.declared.Channel.{Channel}
 use Rattle.receiver_state.specs.declared.Receiver.{Receiver}
 use Rattle.receiver_state.specs.declared.Answer.{Answer}
 use Rattle.receiver_state.specs.declared.Answer.TheVariants.{Accepted, Played, NoRow, Row}
-use Rattle.receiver_state.specs.declared.Answered.{Answered}
 use Rattle.receiver_words.specs.Words.{sizes_in, counts_in, buffer_in, screen_in, count_words, buffer_words, screen_words}
 
 -- ---- the clock of the model's clock
@@ -78,26 +75,26 @@ receiver_words r =
 -- ---- answers
 
 -- 0 and a refusal's number; 1: accepted; 2, taken, dropped and short; 3: no row; 4 and the bins of a completed row
-abbrev pub answer_words : Result Answer Refusal → List ℕ
-answer_words (Err why) = 0 ∷ refusal_number why ∷ 0 ∷ 0 ∷ []
+abbrev pub answer_words : Result Answer ℕ → List ℕ
+answer_words (Err number) = 0 ∷ number ∷ 0 ∷ 0 ∷ []
 answer_words (Ok Accepted) = 1 ∷ 0 ∷ 0 ∷ 0 ∷ []
 answer_words (Ok (Played p)) = 2 ∷ play_words p
 answer_words (Ok NoRow) = 3 ∷ 0 ∷ 0 ∷ 0 ∷ []
 answer_words (Ok (Row n)) = 4 ∷ n ∷ 0 ∷ 0 ∷ []
 
-abbrev pub is_refused : Result Answer Refusal → Bool
-is_refused (Err why) = true
+abbrev pub is_refused : Result Answer ℕ → Bool
+is_refused (Err number) = true
 is_refused (Ok a) = false
 
 -- the words of a state after a call: a refusal leaves each as it was
-unfoldable pub state_left : Answered → List ℕ → List ℕ
-state_left v w = cond (is_refused v.answer) w (sets w 0 (receiver_words v.receiver))
+unfoldable pub state_left : Receiver → Result Answer ℕ → List ℕ → List ℕ
+state_left r said w = cond (is_refused said) w (sets w 0 (receiver_words r))
 
 -- setup's answer: 0 and a refusal's number, or 1
-abbrev pub setup_words : Result Receiver Refusal → List ℕ
-setup_words (Err why) = 0 ∷ refusal_number why ∷ 0 ∷ 0 ∷ []
+abbrev pub setup_words : Result Receiver ℕ → List ℕ
+setup_words (Err number) = 0 ∷ number ∷ 0 ∷ 0 ∷ []
 setup_words (Ok r) = 1 ∷ 0 ∷ 0 ∷ 0 ∷ []
 
-abbrev pub setup_left : Result Receiver Refusal → List ℕ → List ℕ
-setup_left (Err why) w = w
+abbrev pub setup_left : Result Receiver ℕ → List ℕ → List ℕ
+setup_left (Err number) w = w
 setup_left (Ok r) w = sets w 0 (receiver_words r)

@@ -8,10 +8,9 @@ use crate::words::{
     buffer_from, buffer_words, count_words, counts_from, screen_from, screen_words, sizes_from,
 };
 use audio_metrics_words::to_words;
-use calls::Refusal;
 use channel::Channel;
 use numbers::put;
-use receiver_state::{Answer, Answered, Receiver};
+use receiver_state::{Answer, Receiver};
 
 #[tactic(auto, using(numbers::proofs::Stored::rest_is), unfolding(crate::specs::State::channel_read))]
 fn channel_from(w: &[u64]) -> Channel
@@ -57,11 +56,11 @@ fn write_receiver(w: &mut [u64], r: Receiver)
     put(w, 76, &to_words(r.clock));
 }
 
-fn answer_words(answer: Result<Answer, Refusal>) -> [u64; 4]
+fn answer_words(answer: Result<Answer, u32>) -> [u64; 4]
     ensures { result ≡ answer_words answer }
 {
     match answer {
-        Err(why) => [0, why.number() as u64, 0, 0],
+        Err(number) => [0, number as u64, 0, 0],
         Ok(Answer::Accepted) => [1, 0, 0, 0],
         Ok(Answer::Played(p)) => {
             let [taken, dropped, short] = p.words();
@@ -72,20 +71,20 @@ fn answer_words(answer: Result<Answer, Refusal>) -> [u64; 4]
     }
 }
 
-// What a call left and answered, in words. A refusal leaves the state's as they were.
+// What a call left and answered, in words. A refusal comes by its number, which may be any, and leaves the state's as they were.
 #[tactic(auto, unfolding(crate::specs::State::state_left))]
-pub fn leave(state: &mut [u64], answer: &mut [u64], v: Answered)
+pub fn leave(state: &mut [u64], answer: &mut [u64], receiver: Receiver, said: Result<Answer, u32>)
     requires { (90 ≤ length state.old) × (4 ≤ length answer.old) }
-    ensures { (state.new ≡ state_left v state.old) × (answer.new ≡ sets answer.old 0 (answer_words v.answer)) }
+    ensures { (state.new ≡ state_left receiver said state.old) × (answer.new ≡ sets answer.old 0 (answer_words said)) }
 {
-    put(answer, 0, &answer_words(v.answer));
-    if v.answer.is_ok() {
-        write_receiver(state, v.receiver);
+    put(answer, 0, &answer_words(said));
+    if said.is_ok() {
+        write_receiver(state, receiver);
     }
 }
 
-// What setup left and answered, in words. A refusal leaves the state's as they were.
-pub fn leave_setup(state: &mut [u64], answer: &mut [u64], s: Result<Receiver, Refusal>)
+// The same of setup.
+pub fn leave_setup(state: &mut [u64], answer: &mut [u64], s: Result<Receiver, u32>)
     requires { (90 ≤ length state.old) × (4 ≤ length answer.old) }
     ensures { (state.new ≡ setup_left s state.old) × (answer.new ≡ sets answer.old 0 (setup_words s)) }
 {

@@ -3,7 +3,7 @@ ghost use Rattle.std.specs.Prelude.{◌≤◌, length};
 ghost use Rattle.calls.specs.Views.{model_side};
 ghost use Rattle.replaying.specs.Printing.{LineBegun};
 
-use calls::{Refusal, Side};
+use calls::Side;
 use receiver_state::Answer;
 
 // What is still to be written of a line. (No Option: samples, of which the caller knows how many there are, are not a row's values.)
@@ -23,14 +23,14 @@ pub struct Begun {
     pub left: Left,
 }
 
-// 66 bytes are the most that are written.
-pub fn begin_line(text: &mut [u8], side: Side, answer: Result<Answer, Refusal>) -> Begun
+// A refusal comes by its number. 66 bytes are the most that are written.
+pub fn begin_line(text: &mut [u8], side: Side, answer: Result<Answer, u32>) -> Begun
     requires { 66 ≤ length text.old }
     ensures { LineBegun (model_side side) answer text.old text.new result }
 {
     match answer {
-        Err(why) => Begun {
-            written: lines::put_refusal(text, why).unwrap(),
+        Err(number) => Begun {
+            written: lines::put_refusal(text, number).unwrap(),
             left: Left::Nothing,
         },
         Ok(Answer::Accepted | Answer::NoRow) => Begun {

@@ -12,8 +12,6 @@ use Rattle.model.specs.Replay.{decimal, line, refused_line, side_letter}
 use Rattle.model.specs.Summary.{play_summary, row_summary, answer_summary}
 use Rattle.model.proofs.ListLaws.{placed_length}
 use Rattle.calls.specs.declared.PlayedSamples.{PlayedSamples}
-use Rattle.calls.specs.declared.Refusal.{Refusal}
-use Rattle.calls.specs.Refusals.{refusal_number}
 use Rattle.calls.specs.Views.{play_words}
 use Rattle.text.proofs.FittedLaws.{Fitted, fitted_behind}
 use Rattle.model.proofs.PlacedLaws.{none_placed}
@@ -22,7 +20,7 @@ use Rattle.lines.proofs.WordLaws.{rest_is_spaced}
 use Rattle.lines.proofs.Pieces.{byte_fitted}
 use Rattle.receiver_state.specs.declared.Answer.{Answer}
 use Rattle.receiver_state.specs.declared.Answer.TheVariants.{Played, Row}
-use Rattle.receiver_state.specs.View.{answer_of}
+use Rattle.receiver_state.specs.View.{answer_numbered}
 use Rattle.playback_parts.specs.Parts.{TextPut}
 use Rattle.playback_parts.proofs.Texts.{piece_put}
 use Rattle.summary_lines.specs.Summaries.{SummaryPut}
@@ -62,9 +60,9 @@ module _ (letter : ℕ) (side : Side) (numbers : List ℕ) where
 -- ---- each answer
 
 module _ (side : Side) {entry exit : List ℕ} {bytes : ℕ} where
-  pub refused_put : (why : Refusal) (count : ℕ) → TextPut (refused_line (refusal_number why)) entry exit bytes → SummaryPut side (Err why) count entry exit bytes
+  pub refused_put : (number count : ℕ) → TextPut (refused_line number) entry exit bytes → SummaryPut side (Err number) count entry exit bytes
   unfolding answer_summary
-  refused_put why count put = record { text = refused_line (refusal_number why); put = put; line = λ values has. refl }
+  refused_put number count put = record { text = refused_line number; put = put; line = λ values has. refl }
 
   pub play_put : (n : PlayedSamples) (count : ℕ) → TextPut (line 80 (words 80 side (play_words n))) entry exit bytes → SummaryPut side (Ok (Played n)) count entry exit bytes
   unfolding answer_summary play_summary
@@ -75,6 +73,6 @@ module _ (side : Side) {entry exit : List ℕ} {bytes : ℕ} where
   row_put n count put = record { text = line 87 (words 87 side (count ∷ [])); put = put; line = λ values has. rw has }
 
 -- an answer without a line
-pub none_put : (side : Side) (count : ℕ) (entry : List ℕ) (a : Result Answer Refusal) → ((values : List Float) → answer_summary side (answer_of a values) ≡ [])
+pub none_put : (side : Side) (count : ℕ) (entry : List ℕ) (a : Result Answer ℕ) → ((values : List Float) → answer_summary side (answer_numbered a values) ≡ [])
     → SummaryPut side a count entry entry 0
 none_put side count entry a line = record { text = []; put = record { length_is = refl; target = sym (none_placed 0 entry) }; line = λ values has. line values }

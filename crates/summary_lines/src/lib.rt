@@ -8,7 +8,7 @@ ghost use Rattle.calls.specs.Views.{model_side};
 ghost use Rattle.playback_parts.specs.Parts.{TextPut};
 ghost use Rattle.summary_lines.specs.Summaries.{SummaryPut};
 
-use calls::{Refusal, Side};
+use calls::Side;
 use receiver_state::Answer;
 
 // A letter, a channel and numbers, to the line's end.
@@ -21,18 +21,13 @@ fn put_numbered(text: &mut [u8], letter: u8, side: Side, numbers: &[u64]) -> usi
     end + 1
 }
 
-// The summary's line of an answer. Where the answer is a row, `values` is how many it has.
-pub fn put_summary(
-    text: &mut [u8],
-    side: Side,
-    answer: Result<Answer, Refusal>,
-    values: usize,
-) -> usize
+// The summary's line of an answer, with a refusal by its number. Where the answer is a row, `values` is how many it has.
+pub fn put_summary(text: &mut [u8], side: Side, answer: Result<Answer, u32>, values: usize) -> usize
     requires { 170 ≤ length text.old }
     ensures { SummaryPut (model_side side) answer values text.old text.new result }
 {
     match answer {
-        Err(why) => lines::put_refusal(text, why).unwrap(),
+        Err(number) => lines::put_refusal(text, number).unwrap(),
         Ok(Answer::Accepted | Answer::NoRow) => 0,
         Ok(Answer::Played(p)) => put_numbered(text, b'P', side, &p.words()),
         Ok(Answer::Row(_)) => put_numbered(text, b'W', side, &[values as u64]),

@@ -10,7 +10,7 @@ use Rattle.summary_lines.proofs.Lines.{refused_put, play_put, row_put, none_put}
 use Rattle.summary_lines.proofs.put_summary.Goals as goal
 
 pub returns-in-Err : goal.returns-in-Err
-returns-in-Err c = rw c.in-Err.is (refused_put (model_side c.args.side) c.in-Err.why c.args.values (piece_put (omega (arith, c.requires)) c.put_refusal.ensures c.unwrap.ensures))
+returns-in-Err c = rw c.in-Err.is (refused_put (model_side c.args.side) c.in-Err.number c.args.values (piece_put (omega (arith, c.requires)) c.put_refusal.ensures c.unwrap.ensures))
 
 pub returns-in-Ok-Accepted : goal.returns-in-Ok-Accepted
 unfolding answer_summary

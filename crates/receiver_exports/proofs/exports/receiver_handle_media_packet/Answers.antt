@@ -7,4 +7,4 @@ pub returns-then-not-words_there : goal.returns-then-not-words_there
 returns-then-not-words_there c = too_short_law _ _ _ (refl, refl) c.words_there.ensures c.if-not-words_there.true
 
 pub returns : goal.returns
-returns c = acted _ _ _ c.handle_media_packet.result c.words_there.ensures c.if-not-words_there.false c.receiver_at-r.ensures c.handle_media_packet.ensures c.leave.ensures
+returns c = acted _ _ _ c.handle_media_packet-v.result c.words_there.ensures c.if-not-words_there.false c.receiver_at.ensures c.handle_media_packet-v.ensures (rw c.numbered.ensures at c.leave.ensures)

@@ -6,4 +6,4 @@ pub returns-then-not-words_there : goal.returns-then-not-words_there
 returns-then-not-words_there c = setup_too_short _ _ _ _ _ _ _ c.words_there.ensures c.if-not-words_there.true
 
 pub returns : goal.returns
-returns c = setup_acted _ _ _ _ _ _ _ c.setup.result c.words_there.ensures c.if-not-words_there.false c.setup.ensures c.leave_setup.ensures
+returns c = setup_acted _ _ _ _ _ _ _ c.setup.result c.words_there.ensures c.if-not-words_there.false c.setup.ensures (rw c.numbered.ensures at c.leave_setup.ensures)

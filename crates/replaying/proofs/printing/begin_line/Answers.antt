@@ -8,7 +8,7 @@ use Rattle.replaying.proofs.Begun.{refused_begun, played_begun, row_begun, none_
 use Rattle.replaying.proofs.printing.begin_line.Goals as goal
 
 pub returns-in-Err : goal.returns-in-Err
-returns-in-Err c = rw c.in-Err.is (refused_begun (model_side c.args.side) c.requires c.unwrap.ensures c.in-Err.why c.put_refusal.ensures)
+returns-in-Err c = rw c.in-Err.is (refused_begun (model_side c.args.side) c.requires c.unwrap.ensures c.in-Err.number c.put_refusal.ensures)
 
 pub returns-in-Ok-Accepted : goal.returns-in-Ok-Accepted
 unfolding answer_line
