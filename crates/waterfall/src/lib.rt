@@ -123,5 +123,5 @@ pub fn draw_row_db(
     areas::move_up(buffer, 0, wf_width, (wf_height - 1) * wf_width);
     let window = spectrum_utils::zoom_window(row_db.len(), zoom);
     let levels = Levels::below(top_db, range_db);
-    draw_columns(buffer, wf_width, &row_db[window], &levels);
+    draw_columns(buffer, wf_width, &row_db[window.start..window.end], &levels);
 }
