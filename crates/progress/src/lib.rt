@@ -29,12 +29,12 @@ impl fmt::Write for Errors {
 #[derive(Clone, Copy)]
 pub struct Shown {
     // Whether the output goes to a terminal too.
-    lines: bool,
+    pub lines: bool,
     // The percentage that was told last.
-    percent: Option<usize>,
+    pub percent: Option<usize>,
     // The samples that were played.
-    a: u64,
-    b: u64,
+    pub a: u64,
+    pub b: u64,
 }
 
 // How far a replay is; None where it is not told.

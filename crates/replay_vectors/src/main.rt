@@ -14,12 +14,16 @@ use tally::Tally;
 fn replay_list(rt: HostRuntime, expected: &mut [u8; 600000]) {
     let nan: f32 = 0.0 / 0.0;
     let mut tape = [0u8; 65540];
+    // Zeros, and then filled where they lie: an array of what is no constant is laid out twice.
     let mut areas = Areas {
-        fs: [nan; 16384],
-        us: [7; 16384],
-        samples: [nan; 65535],
+        fs: [0.0; 16384],
+        us: [0; 16384],
+        samples: [0.0; 65535],
         text: io::buffer(),
     };
+    areas.fs.fill(nan);
+    areas.us.fill(7);
+    areas.samples.fill(nan);
     let mut b = Bench {
         rt,
         tally: Tally::default(),

@@ -2,7 +2,6 @@
 // Each number is written up to the end of 24 dots, so that it just fits, and then one place later, where it is one byte too long.
 #![tactic(auto)]
 
-use std::io;
 use text::{put_byte, put_decimal, put_hex, put_signed};
 
 const SIZE: usize = 24;
@@ -127,15 +126,16 @@ fn line() -> bool {
     put_words(&mut out) == Some(18) && out == *b"P 160 -5 3f800000\n......"
 }
 
-fn report(rt: &impl Print, group: &str, ok: bool) -> io::Result<()> {
-    println!(rt; "{group}: {}", if ok { "ok" } else { "DIFFERS" })
+// A line that cannot be written is left out.
+fn report(rt: &impl Print, group: &str, ok: bool) {
+    let _ = println!(rt; "{group}: {}", if ok { "ok" } else { "DIFFERS" });
 }
 
-fn main(rt: HostRuntime) -> io::Result<()> {
-    report(&rt, "decimal", decimals())?;
-    report(&rt, "signed", signed_ones())?;
-    report(&rt, "hexadecimal", patterns())?;
-    report(&rt, "byte", bytes())?;
-    report(&rt, "far places", far_places())?;
-    report(&rt, "line", line())
+fn main(rt: HostRuntime) {
+    report(&rt, "decimal", decimals());
+    report(&rt, "signed", signed_ones());
+    report(&rt, "hexadecimal", patterns());
+    report(&rt, "byte", bytes());
+    report(&rt, "far places", far_places());
+    report(&rt, "line", line());
 }

@@ -73,18 +73,32 @@ fn take_line(s: &mut Session, p: &mut Progress, side: Side, line: &[u8]) {
     }
 }
 
-// All lines on both channels, one after the other. A read that fails ends the input.
-fn main(rt: HostRuntime) {
-    let mut text = io::large_buffer();
-    let read = input::read_all(&mut rt.stdin(), &mut text);
-    let n = read.unwrap_or_else(|failed| failed.bytes);
-    let mut s = Session::new();
+// All lines on both channels, one after the other. (The session is written down here, with zeros, and filled where it lies: what a function makes
+// and answers, and an array of what is no constant, is laid out twice.)
+fn run(rt: HostRuntime, lines: &[u8]) {
+    let mut s = Session {
+        side: Side::A,
+        receiver: session::no_receiver(),
+        fs: [0.0; 458751],
+        us: [0; 514],
+        found: Ok(()),
+    };
+    s.fs.fill(0.0 / 0.0);
+    s.us.fill(7);
     for side in [Side::A, Side::B] {
         s.start(side);
         let mut p = Progress::start(rt, side);
-        for line in text[..n].split(|b| *b == b'\n') {
+        for line in lines.split(|b| *b == b'\n') {
             take_line(&mut s, &mut p, side, line);
         }
         p.sum_up();
     }
+}
+
+// A read that fails ends the input.
+fn main(rt: HostRuntime) {
+    let mut text = io::large_buffer();
+    let read = input::read_all(&mut rt.stdin(), &mut text);
+    let n = read.unwrap_or_else(|failed| failed.bytes);
+    run(rt, &text[..n]);
 }

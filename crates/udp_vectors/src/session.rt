@@ -61,7 +61,7 @@ fn settings_of(words: &[u32]) -> Settings {
 }
 
 // Before a setup: no bins, so that question 1 refuses every call.
-fn no_receiver() -> Receiver {
+pub(crate) fn no_receiver() -> Receiver {
     let zeros = Estimates::default();
     Receiver::new(sizes_of(&[]), zeros, zeros)
 }
@@ -77,16 +77,6 @@ fn answer_word(answer: Result<Answer, Refusal>) -> u32 {
 }
 
 impl Session {
-    pub(crate) fn new() -> Session {
-        Session {
-            side: Side::A,
-            receiver: no_receiver(),
-            fs: [0.0 / 0.0; 458751],
-            us: [7; 514],
-            found: Ok(()),
-        }
-    }
-
     // The areas hold what the session before has left there.
     pub(crate) fn start(&mut self, side: Side) {
         self.side = side;

@@ -1,5 +1,5 @@
 // The words of a line: hexadecimal numbers, each behind a space.
-ghost use Rattle.std.specs.Prelude.{◌≤◌};
+ghost use Rattle.std.specs.Prelude.{◌≤◌, ◌<◌, IfSome};
 
 // A line's letter, and its words.
 #[derive(Clone, Copy)]
@@ -9,7 +9,9 @@ pub(crate) struct Line<'a> {
 }
 
 // The value of a digit, which is never a capital letter.
-fn digit(b: u8) -> Option<u32> {
+fn digit(b: u8) -> Option<u32>
+    ensures { IfSome result (λ n. n < 16) }
+{
     if b.is_ascii_uppercase() {
         return None;
     }
