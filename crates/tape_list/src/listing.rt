@@ -8,8 +8,9 @@ use tape::{BadWord, Call, FIRST_CALL, Setup};
 use udp_framing::MediaHeader;
 use udp_framing::big_endian::BigEndian;
 
-// A line, and how much of it is written. The longest, a setup's, has at most 129 bytes; what had no room would be left out. (By the
-// runtime's macros a long tape's listing takes half as long again, since each line's bytes are cleared and its pieces are formatted.)
+// A line, and how much of it is written. The longest, a setup's, has at most 128 bytes; what had no room would be left out. (By the
+// runtime's macros a long tape's listing takes half as long again, since each line's bytes are cleared and its pieces are formatted.
+// The `Line` of `lines` asks for a proof of room before each word.)
 #[derive(Drop)]
 pub struct Line {
     bytes: [u8; 160],
