@@ -1,5 +1,6 @@
 -- What a cast between signed and unsigned numbers of 64 bits gives is what the definitions say of the bits. Assumes nothing.
 use Rattle.std.proofs.Common.{◌≡◌, ℕ, suc, ◌-◌, ◌%◌, ◌^◌, Bool, true, false, cond, ltb, ℤ, pos, negsuc, refl, sym, mod-eq_of_lt, arith, w64, SFits, to_z, of_z}
+use mir.Syntax.{w128}
 use mir.Val.{sel}
 use Rattle.model.specs.Clock.{bits64, signed64}
 
@@ -17,3 +18,9 @@ bits_of_signed (pos n) f = sym (mod-eq_of_lt (omega (arith, f.sfits)))
 bits_of_signed (negsuc n) f =
     let small : n % 2 ^ 64 ≡ n = mod-eq_of_lt (omega (arith, f.sfits)) in
     rw small refl
+
+-- the low half of 128 bits
+pub low_bits_of_signed : (n : ℤ) → SFits w128 n → of_z w128 n % 2 ^ 64 ≡ bits64 n
+unfolding bits64
+low_bits_of_signed (pos n) f = refl
+low_bits_of_signed (negsuc n) f = omega (arith, f.sfits)

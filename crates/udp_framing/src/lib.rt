@@ -8,6 +8,7 @@ pub mod words;
 ghost use Rattle.std.specs.Prelude.{◌≡◌, ◌≤◌, length};
 ghost use Rattle.model.specs.Bytes.{placed};
 ghost use Rattle.model.specs.Framing.{header_length, parse_header, valid_header, audio_start, audio_send_time, build_request, build_response, parse_request, parse_response};
+ghost use Rattle.model.specs.Clock.{low64};
 ghost use Rattle.udp_framing.specs.StreamTypes.{stream_number, Numbered};
 ghost use Rattle.udp_framing.specs.Views.{header_of, header_found, send_time_found, or_refusal, answer_of, request_of, response_of};
 ghost use Rattle.udp_framing.specs.Promises.{header_bytes, BuiltAs, TimePacketAsked, Measured};
@@ -242,6 +243,15 @@ pub struct OffsetRtt {
     pub rtt: i64,
 }
 
+// The low 64 bits of a number of 128, as a signed number. (Offset and round trip are worked out in words of 64 bits; this is for a caller
+// that holds such a number.)
+#[tactic(auto, using(model::proofs::CastLaws::low_bits_of_signed), unfolding(model::specs::Clock::low64))]
+pub fn low_64(n: i128) -> i64
+    ensures { result ≡ low64 n }
+{
+    as_signed((n.cast_unsigned() % (1 << 64)) as u64)
+}
+
 // From a probe's four times: ((t2 - t1) + (t3 - t4)) / 2 toward zero and (t4 - t1) - (t3 - t2), the low 64 bits of each.
 pub fn clock_offset_rtt(t: ProbeTimes) -> OffsetRtt
     ensures { Measured t result }
@@ -255,5 +265,32 @@ pub fn clock_offset_rtt(t: ProbeTimes) -> OffsetRtt
     OffsetRtt {
         offset: as_signed(offset),
         rtt: as_signed(rtt),
+    }
+}
+
+#[cfg(test)]
+mod tests {
+    use super::*;
+
+    // What two's complement keeps of a number.
+    #[test]
+    fn low_64_keeps_the_low_bits(rt: HostRuntime) {
+        let cases = [
+            (0, 0),
+            (-1, -1),
+            (i128::from(i64::MAX), i64::MAX),
+            (i128::from(i64::MIN), i64::MIN),
+            (1 << 63, i64::MIN),
+            ((1 << 64) - 1, -1),
+            (1 << 64, 0),
+            (3 * (1 << 64) + 5, 5),
+            (-(1 << 63) - 1, i64::MAX),
+            (-(1 << 64) - 7, -7),
+            (i128::MAX, -1),
+            (i128::MIN, 0),
+        ];
+        for (n, want) in cases {
+            assert_eq!(rt; low_64(n), want, "at {n}");
+        }
     }
 }
